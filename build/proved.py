@@ -8,6 +8,7 @@ all that the proof rests on. So a run that was broken off goes on after the last
 it proved again. What is proved is shown on standard error; the log of a crate that fails is shown, and named. --status prints which program a call of
 ./pdp8 runs. The status is 0 where it is the proved one.
 """
+import functools
 import hashlib
 import os
 import shutil
@@ -20,6 +21,7 @@ TOP = os.path.dirname(os.path.dirname(os.path.abspath(__file__)))
 sys.path.insert(0, TOP)
 from build.crates import Crates
 from build.prover import has_proved, library_command, program_command, words_for
+from build.seconds import UNKNOWN, seconds
 from build.toolchain import kit, toolchain
 from build.unproved import Build
 from build.working import Group, Progress, heed_signals, lock, toolchain_with
@@ -27,16 +29,6 @@ from build.working import Group, Progress, heed_signals, lock, toolchain_with
 PROGRAM = "pdp8"
 MADE = f"{TOP}/crates/{PROGRAM}/out/{PROGRAM}"
 LOGS = f"{TOP}/target/proving"
-# About the processor seconds that each crate takes. They decide only which goes first.
-SECONDS = {
-    "word12": 40, "bin_tape": 85, "rim_tape": 45, "core_image": 50, "core_load": 30, "tty8": 25, "cpu8": 250, "flow8": 50, "debug8": 55,
-    "char_pack": 70, "pal_lex": 150, "pal_sym": 65, "pal_asm": 160, "pal_blocks": 55, "source_notes": 60, "source_names": 60, "tape_source": 140,
-    "trace8": 65, "profile8": 70, "host_sources": 190, "source_listing": 120, "pal8_join": 70, "terminal8": 90, "disk_layouts": 60, "volume_image": 85,
-    "os8_dir": 160, "os8_files": 180, "script8": 170, "archive_files": 220, "archive_many": 110, "archive_survey": 100, "volume_jobs": 150, "system_session": 300,
-    "program_tasks": 40, "command_table": 150, "command_refusals": 100, "command_line": 350, "program_reports": 170, "outcome": 100, "image_files": 120, "volume_commands": 120, "host_progress": 20, "program_commands": 60, "choice_commands": 120, "source_commands": 120,
-    "host_output": 25, "script_commands": 120, "tape_commands": 90, "source_places": 55, "statement_runs": 30,
-    "monitor8": 150, "pdp8": 140,
-}  # fmt: skip
 # What compiles the program: the toolchain's compiler, which lays direct jumps so that none crosses or ends at 32 bytes. There some processors are
 # slow.
 COMPILER = """#!/bin/sh
@@ -114,10 +106,14 @@ class Wanted:
             return library_command(words, jobs, self.own_library(name))
         return program_command(words, jobs, f"{self.kept(name)}/{name}", tools)
 
-    def chain(self, name: str) -> float:
-        """The seconds of the longest chain of crates from this one up to the program."""
-        above = [self.chain(it) for it in self.names if name in self.all.own[it]]
-        return SECONDS.get(name, 30) + max(above, default=0)
+    @functools.cached_property
+    def chains(self) -> dict[str, float]:
+        """The seconds of the longest chain of crates from each one up to the program."""
+        taken, chains = seconds(), dict[str, float]()
+        for name in reversed(self.names):
+            above = (chains[it] for it in chains if name in self.all.own[it])
+            chains[name] = taken.get(name, UNKNOWN) + max(above, default=0)
+        return chains
 
 
 class Proof:
@@ -160,7 +156,7 @@ def share(wanted: Wanted, ready: list[str], idle: int) -> tuple[str, int]:
     """The crate that is to be proved next, of those that are ready, and its jobs: the one with the longest chain above it goes first. A
     second job costs a prover nearly half its processor seconds again and gains it little time, so it gets only what no other crate waits
     for."""
-    return max(ready, key=wanted.chain), max(1, idle // len(ready))
+    return max(ready, key=lambda it: wanted.chains[it]), max(1, idle // len(ready))
 
 
 def prove(wanted: Wanted, progress: Progress, tools: str, group: Group) -> Proof | None:

@@ -72,7 +72,11 @@ def main(folder: str) -> int:
     if not wanted.is_proved(PROGRAM):
         print("release: the program is not proved as its sources stand; ./prove proves it", file=sys.stderr)
         return 70
-    version = subprocess.run([MADE, "--version"], capture_output=True, text=True, check=True).stdout.strip()
+    asked = subprocess.run([MADE, "--version"], capture_output=True, text=True)
+    if asked.returncode:
+        print(f"release: the program ends with status {asked.returncode} where its version is asked", file=sys.stderr)
+        return 70
+    version = asked.stdout.strip()
     root = f"{version.replace(' ', '-')}-linux-x86_64"
     with tempfile.TemporaryDirectory() as room:
         made = f"{room}/{root}"

@@ -3,8 +3,8 @@ use Rattle.std.proofs.Common.{◌≡◌, ◌∙◌, ℕ, suc, ◌+◌, ◌-◌, 
 use Rattle.std.specs.Global.{Vec}
 use Rattle.std.proofs.lemmas.Bool.Decides.{nat_tests}
 use Rattle.word12.specs.declared.sizes.TheConstants.{BLOCK}
-use Rattle.block_dump.specs.Rows.{rows}
-use Rattle.block_dump.specs.declared.dumping.DumpForm.{DumpForm}
+use Rattle.block_words.specs.Rows.{rows}
+use Rattle.block_words.specs.declared.dumping.DumpForm.{DumpForm}
 use Rattle.volume_image.specs.Image.{image_word}
 use Rattle.archive_many.specs.declared.opened.VolumeFile.{VolumeFile}
 use Rattle.archive_commands.specs.Dumping.{HasFiles, IsDumpOf, bad_line, bad_lines, block_lines, block_rows, block_text, block_words, heading}

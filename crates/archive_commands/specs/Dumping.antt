@@ -3,9 +3,9 @@ use Rattle.std.specs.Prelude.{◌≡◌, ℕ, zero, suc, ◌+◌, ◌-◌, ◌*�
 use Rattle.std.specs.Global.{Vec}
 use Rattle.hosts.specs.Event.{Event}
 use Rattle.word12.specs.declared.sizes.TheConstants.{BLOCK}
-use Rattle.block_dump.specs.Rows.{rows}
-use Rattle.block_dump.specs.declared.dumping.DumpForm.{DumpForm}
-use Rattle.block_dump.specs.declared.dumping.DumpForm.TheVariants.{Sixbit, Text}
+use Rattle.block_words.specs.Rows.{rows}
+use Rattle.block_words.specs.declared.dumping.DumpForm.{DumpForm}
+use Rattle.block_words.specs.declared.dumping.DumpForm.TheVariants.{Sixbit, Text}
 use Rattle.volume_image.specs.Image.{image_word}
 use Rattle.name_spelling.specs.Spelling.{text_of}
 use Rattle.script8.specs.declared.faults.SessionFault.TheVariants.{Memory}

@@ -3,9 +3,9 @@ use Rattle.std.specs.Prelude.{◌≡◌, ◌⊎◌, ℕ, codes, decimal, Result,
 use Rattle.std.specs.Global.{Vec}
 use Rattle.hosts.specs.Event.{Event}
 use Rattle.word12.specs.Octal.{octal4}
-use Rattle.image_patch.specs.Patching.{Patches}
-use Rattle.image_patch.specs.declared.faults.PatchFault.{PatchFault}
-use Rattle.image_patch.specs.declared.faults.PatchFault.TheVariants.{NoBlock, NoWord, OtherWord}
+use Rattle.block_words.specs.Patching.{Patches}
+use Rattle.block_words.specs.declared.faults.PatchFault.{PatchFault}
+use Rattle.block_words.specs.declared.faults.PatchFault.TheVariants.{NoBlock, NoWord, OtherWord}
 use Rattle.script8.specs.declared.faults.SessionFault.TheVariants.{Memory}
 use Rattle.program_tasks.specs.declared.forms.ImageForm.{ImageForm}
 use Rattle.outcome.specs.declared.endings.Ending.{Ending}

@@ -13,8 +13,7 @@ ghost use Rattle.archive_commands.specs.DateSteps.{line_of_entry, lines_of_entri
 use crate::lines::put_number;
 use archive_files::ArchiveFault;
 use archive_files::parts::volume_of;
-use name_patterns::is_chosen_by;
-use name_spelling::put_name;
+use name_spelling::{is_chosen_by, put_name};
 use os8_dates::{date_of, put_date};
 use os8_dir::{DirEntry, DirFault, Directory, Name};
 use script8::SessionFault;

@@ -6,10 +6,9 @@ ghost use Rattle.archive_commands.specs.Dumping.{Dumps, IsDump, bad_line, bad_li
 use crate::lines::{put_bits, put_number};
 use crate::owners::{files_in, owner_in};
 use archive_many::VolumeFile;
-use block_dump::{DumpForm, put_words};
+use block_words::{DumpForm, put_words, word_at};
 use hosts::Host;
 use image_files::{look_at, print};
-use image_patch::word_at;
 use name_spelling::put_name;
 use outcome::Ending;
 use program_reports::ProgramLine;

@@ -1,14 +1,14 @@
 //! The command that puts one word of an image in place of another.
 ghost use Rattle.std.specs.Prelude.{◌≡◌, ◌++◌, OnOk};
 ghost use Rattle.image_files.specs.Answers.{AreLines};
-ghost use Rattle.image_patch.specs.declared.faults.PatchFault.TheVariants.{NoBlock, OtherWord};
+ghost use Rattle.block_words.specs.declared.faults.PatchFault.TheVariants.{NoBlock, OtherWord};
 ghost use Rattle.archive_commands.specs.Patching.{PatchesWord, GivesPatched, RefusesPatch, fault_text, patched_text};
 
 use crate::lines::{put_bits, put_number};
 use crate::refusals::refuse_with;
+use block_words::{PatchFault, patch};
 use hosts::Host;
 use image_files::{Image, store};
-use image_patch::{PatchFault, patch};
 use outcome::Ending;
 use program_tasks::ImageForm;
 use std::alloc::{AllocError, Global};

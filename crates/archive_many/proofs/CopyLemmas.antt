@@ -10,7 +10,7 @@ use Rattle.os8_dir.specs.Names.{with_end_zeros}
 use Rattle.os8_dir.specs.Found.{FilePlace, files_at, find}
 use Rattle.os8_dir.specs.Files.{FileData, Files, files_of}
 use Rattle.os8_dir.specs.Reading.{directory_of}
-use Rattle.name_patterns.specs.Patterns.{is_like_one}
+use Rattle.name_spelling.specs.Patterns.{is_like_one}
 use Rattle.os8_files.specs.Calls.{info_of}
 use Rattle.archive_files.specs.Opening.{IsOpened}
 use Rattle.archive_files.specs.Asking.{AtBlock, AreAsked, asked_name}

@@ -3,7 +3,7 @@ use Rattle.std.proofs.Common.{◌≡◌, ◌≤◌, ◌<◌, ◌+◌, ◌-◌, �
 use Rattle.std.specs.Prelude.{◌||◌, ◌==◌}
 use Rattle.std.proofs.Math.Seq.{drop-cons, take-suc}
 use Rattle.std.proofs.lemmas.List.{length-map, map-append, take-append-drop, take_all}
-use Rattle.name_patterns.specs.Patterns.{is_code}
+use Rattle.name_spelling.specs.Patterns.{is_code}
 use Rattle.archive_many.specs.Extensions.{AreLists, IsFirstBad, extension_word, is_list, is_listed, items_of, some_spells, with_first}
 use Rattle.archive_many.specs.ExtensionSteps.{before_comma, items_after}
 

@@ -11,7 +11,7 @@ use Rattle.os8_dir.specs.Found.{AreApart, FilePlace, files_at, find}
 use Rattle.os8_dir.specs.Files.{FileData, Files, files_of, data_if_there}
 use Rattle.os8_dir.specs.Reading.{directory_of}
 use Rattle.os8_dir.specs.declared.faults.DirFault.{DirFault}
-use Rattle.name_patterns.specs.Patterns.{is_choice, is_like_one, matches}
+use Rattle.name_spelling.specs.Patterns.{is_choice, is_like_one, matches}
 use Rattle.archive_files.specs.Opening.{IsOpened}
 use Rattle.archive_files.specs.Asking.{AtBlock, AreAsked, asked_name, name_at, name_beginning}
 use Rattle.archive_files.specs.Deleting.{DeletesFiles, without}

@@ -2,7 +2,7 @@
 use Rattle.std.proofs.Common.{◌≡◌, ◌∙◌, ◌<◌, ◌||◌, ◌++◌, ◌∷◌, ℕ, Bool, true, false, not, nat_eq, List, [], ap, arith, if◌then◌else◌, length, map, refl, subst, sym}
 use Rattle.std.proofs.lemmas.Bool.Decides.{nat_tests}
 use Rattle.std.specs.BTreeSet.{BTreeSet}
-use Rattle.name_patterns.specs.Patterns.{is_choice}
+use Rattle.name_spelling.specs.Patterns.{is_choice}
 use Rattle.archive_many.specs.Choosing.{files_like}
 use Rattle.archive_many.specs.declared.opened.VolumeFile.{VolumeFile}
 use Rattle.archive_many.specs.WishSteps.{KnowsPlaces, has_key}

@@ -1,7 +1,7 @@
 -- The files of a volume that a word chooses, and the one that begins at a block (this project's profile).
 use Rattle.std.specs.Prelude.{◌≡◌, ℕ, ◌<◌, ◌==◌, true, false, if◌then◌else◌, Option, Some, None, Result, Ok, Err, List, [], ◌∷◌, length}
 use Rattle.std.specs.Global.{Vec}
-use Rattle.name_patterns.specs.Patterns.{is_choice, matches}
+use Rattle.name_spelling.specs.Patterns.{is_choice, matches}
 use Rattle.archive_many.specs.declared.opened.VolumeFile.{VolumeFile}
 use Rattle.archive_many.specs.declared.faults.ChoiceFault.{ChoiceFault}
 use Rattle.archive_many.specs.declared.faults.ChoiceFault.TheVariants.{BadName, NotFound, Memory}

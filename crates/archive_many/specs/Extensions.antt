@@ -3,7 +3,7 @@
 use Rattle.std.specs.Prelude.{◌≡◌, ℕ, ◌+◌, ◌*◌, ◌%◌, ◌==◌, ◌&&◌, ◌||◌, Bool, true, false, if◌then◌else◌, codes, Option, Some, None, List, [], ◌∷◌, ◌++◌, length}
 use Rattle.std.specs.Option.{is_some}
 use Rattle.word12.specs.Sixbit.{sixbit_code}
-use Rattle.name_patterns.specs.Patterns.{is_code}
+use Rattle.name_spelling.specs.Patterns.{is_code}
 
 -- a word of two sixbit codes, where both are known
 abbrev pub word_of : Option ℕ → Option ℕ → Option ℕ

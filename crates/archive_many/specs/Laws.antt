@@ -8,7 +8,7 @@ use Rattle.char_pack.specs.declared.forms.GetForm.TheVariants as get_as
 use Rattle.char_pack.specs.declared.forms.PutForm.TheVariants as put_as
 use Rattle.os8_dir.specs.Names.{with_end_zeros}
 use Rattle.os8_dir.specs.Files.{FileData, files_of}
-use Rattle.name_patterns.specs.Patterns.{is_like_one}
+use Rattle.name_spelling.specs.Patterns.{is_like_one}
 use Rattle.os8_files.specs.Calls.{info_of}
 use Rattle.archive_files.specs.Opening.{IsOpened}
 use Rattle.archive_files.specs.Deleting.{DeletesFiles}

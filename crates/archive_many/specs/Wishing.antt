@@ -1,6 +1,6 @@
 -- What is asked for of the files of a volume by words that choose files, and by first blocks.
 use Rattle.std.specs.Prelude.{◌||◌, ℕ, ◌+◌, Bool, true, false, nat_eq, if◌then◌else◌, Option, None, Some, List, [], ◌∷◌, ◌++◌, map}
-use Rattle.name_patterns.specs.Patterns.{is_choice}
+use Rattle.name_spelling.specs.Patterns.{is_choice}
 use Rattle.archive_files.specs.Asking.{Target, AtBlock}
 use Rattle.archive_many.specs.Choosing.{beginning_at, files_like}
 use Rattle.archive_many.specs.declared.opened.VolumeFile.{VolumeFile}

@@ -2,7 +2,7 @@ ghost use Rattle.std.specs.Prelude.{◌≡◌, ◌<◌, length, MatchResult};
 ghost use Rattle.archive_many.specs.Choosing.{Chooses, beginning_at, files_like};
 
 use crate::{ChoiceFault, VolumeFile};
-use name_patterns::{is_choice, matches};
+use name_spelling::{is_choice, matches};
 use std::alloc::{AllocError, Global};
 
 /// The files that a word chooses, in their order: that of a typed name, or all that are like a pattern. A pattern is 1 to 12 capital

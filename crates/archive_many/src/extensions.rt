@@ -1,5 +1,5 @@
 ghost use Rattle.std.specs.Prelude.{◌≡◌, ◌<◌, ◌≤◌, length, map, IfSome, MatchOption};
-ghost use Rattle.name_patterns.specs.Patterns.{is_code};
+ghost use Rattle.name_spelling.specs.Patterns.{is_code};
 ghost use Rattle.archive_many.specs.Extensions as spec;
 ghost use Rattle.archive_many.specs.Extensions.{AreLists, IsFirstBad};
 ghost use Rattle.archive_many.specs.ExtensionSteps.{before_comma, items_after};

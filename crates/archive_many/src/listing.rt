@@ -5,7 +5,7 @@ ghost use Rattle.archive_many.specs.Listing.{ListsLike, like_lines};
 
 use archive_files::ArchiveFault;
 use archive_files::parts::{open_image, put_file, put_free};
-use name_patterns::is_chosen_by;
+use name_spelling::is_chosen_by;
 use os8_dir::Name;
 use os8_files::FileFault;
 use script8::SessionFault;

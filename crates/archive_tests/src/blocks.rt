@@ -1,8 +1,7 @@
 //! A word of a block, patched and shown.
 
-use block_dump::{DumpForm, put_block};
-use image_patch::laws::patched_back;
-use image_patch::{PatchFault, patch};
+use block_words::patch_laws::patched_back;
+use block_words::{DumpForm, PatchFault, patch, put_block};
 use std::alloc::{AllocError, Global};
 use std::test::Fail;
 use word12::{BLOCK, Word};

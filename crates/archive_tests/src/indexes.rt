@@ -1,8 +1,8 @@
 //! A line of an index.
 
 use file_kind::FileKind;
-use index_line::laws::{one_name, quoted_names};
-use index_line::{IndexEntry, put_index};
+use index_lines::laws::{one_name, quoted_names};
+use index_lines::{IndexEntry, put_index};
 use os8_dir::Name;
 use std::alloc::{AllocError, Global};
 use std::test::Fail;

@@ -25,8 +25,8 @@ use Rattle.image_files.specs.Pairs.{IsOneRefused, RefusesIf, is_one_image, is_wa
 use Rattle.image_files.specs.Laws.{ChangesNothing, KeepsFiles}
 use Rattle.image_files.proofs.KeepLemmas.{after-keeps, purely-keeps, then-keeps}
 use Rattle.image_files.proofs.LeaveLemmas.{same, told}
-use Rattle.image_volumes.specs.Keeping.{keeps_kind}
-use Rattle.image_volumes.specs.declared.judging.Judgment.{Judgment}
+use Rattle.image_kind.specs.Keeping.{keeps_kind}
+use Rattle.image_kind.specs.declared.judging.Judgment.{Judgment}
 use Rattle.image_files.specs.Reading.{LooksAt, Opens}
 use Rattle.image_files.specs.Saving.{Prints, Reports, SavesIf, Stores, Writes, WritesIf}
 use Rattle.image_files.specs.Work.{After, Then, Purely}

@@ -5,14 +5,14 @@ use Rattle.hosts.specs.Event.{Event}
 use Rattle.disk_layouts.specs.Laws.{ReadsWhatItLays}
 use Rattle.disk_layouts.specs.declared.layouts.Layout.{Layout}
 use Rattle.image_kind.specs.declared.kinds.ImageKind.{ImageKind}
-use Rattle.image_volumes.specs.Judging.{judged_kind}
-use Rattle.image_volumes.specs.Keeping.{is_none, is_same_place, is_same_reading, keeps_kind, number_of, two_readings}
-use Rattle.image_volumes.specs.Margins.{body_by, body_of, margins_by, margins_in}
-use Rattle.image_volumes.specs.Volumes.{volumes_in, volumes_with}
-use Rattle.image_volumes.specs.declared.judging.Judgment.{Judgment}
-use Rattle.image_volumes.specs.declared.margins.Margins.{Margins}
-use Rattle.image_volumes.specs.declared.volumes.Volumes.{Volumes}
-use Rattle.image_volumes.specs.declared.volumes.Volumes.TheVariants.{One, Both}
+use Rattle.image_kind.specs.Judging.{judged_kind}
+use Rattle.image_kind.specs.Keeping.{is_none, is_same_place, is_same_reading, keeps_kind, number_of, two_readings}
+use Rattle.image_kind.specs.Margins.{body_by, body_of, margins_by, margins_in}
+use Rattle.image_kind.specs.Volumes.{volumes_in, volumes_with}
+use Rattle.image_kind.specs.declared.judging.Judgment.{Judgment}
+use Rattle.image_kind.specs.declared.margins.Margins.{Margins}
+use Rattle.image_kind.specs.declared.volumes.Volumes.{Volumes}
+use Rattle.image_kind.specs.declared.volumes.Volumes.TheVariants.{One, Both}
 use Rattle.outcome.specs.declared.endings.Ending.{Ending}
 use Rattle.program_tasks.specs.declared.forms.ImageForm.{ImageForm}
 use Rattle.image_files.specs.Again.{AreAlike, FindsAs, IsFoundAgain, LooksAndFinds, LooksIn, OpensAs}

@@ -10,16 +10,16 @@ use Rattle.outcome.specs.declared.hints.ImageNote.{ImageNote}
 use Rattle.archive_files.specs.declared.faults.ArchiveFault.{ArchiveFault}
 use Rattle.image_kind.specs.declared.kinds.ImageKind.{ImageKind}
 use Rattle.std.specs.Global.{Vec}
-use Rattle.image_volumes.specs.Judging.{judged_kind}
-use Rattle.image_volumes.specs.Keeping.{two_readings}
-use Rattle.image_volumes.specs.declared.judging.Judgment.{Judgment}
-use Rattle.image_volumes.specs.Margins.{body_of, margins_by}
-use Rattle.image_volumes.specs.Volumes.{script_kind, volumes_in, volumes_with}
-use Rattle.image_volumes.specs.declared.margins.Margins.{Margins}
-use Rattle.image_volumes.specs.declared.volumes.Volumes.{Volumes}
+use Rattle.image_kind.specs.Judging.{judged_kind}
+use Rattle.image_kind.specs.Keeping.{two_readings}
+use Rattle.image_kind.specs.declared.judging.Judgment.{Judgment}
+use Rattle.image_kind.specs.Margins.{body_of, margins_by}
+use Rattle.image_kind.specs.Volumes.{script_kind, volumes_in, volumes_with}
+use Rattle.image_kind.specs.declared.margins.Margins.{Margins}
+use Rattle.image_kind.specs.declared.volumes.Volumes.{Volumes}
 use Rattle.disk_layouts.specs.declared.layouts.Layout.{Layout}
-use Rattle.lenient_images.specs.Lines.{mended_lines}
-use Rattle.image_volumes.specs.declared.volumes.Volumes.TheVariants.{One, Both}
+use Rattle.image_kind.specs.Lines.{mended_lines}
+use Rattle.image_kind.specs.declared.volumes.Volumes.TheVariants.{One, Both}
 use Rattle.program_tasks.specs.declared.forms.ImageForm.{ImageForm}
 use Rattle.image_files.specs.Answers.{Refuses}
 use Rattle.image_files.specs.Dates.{DatesFile}

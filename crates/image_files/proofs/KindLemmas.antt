@@ -2,7 +2,7 @@
 use Rattle.std.proofs.Common.{◌≡◌, ℕ, Bool, true, false, Ok, List, refl, inl, inr}
 use Rattle.std.specs.Str.{bytes_eq}
 use Rattle.hosts.specs.Event.{Event}
-use Rattle.image_volumes.specs.Keeping.{keeps_kind}
+use Rattle.image_kind.specs.Keeping.{keeps_kind}
 use Rattle.image_files.specs.Laws.{HasKeptKind}
 use Rattle.image_files.specs.Saving.{IsFileWith, Saves, SavesIf, WritesIf}
 use Rattle.image_files.specs.declared.images.Image.{Image}

@@ -3,8 +3,8 @@ use Rattle.std.proofs.Common.{◌≡◌, ◌∙◌, ◌∷◌, ℕ, Bool, true, 
 use Rattle.std.specs.Str.{bytes_eq}
 use Rattle.hosts.specs.Event.{Event, tell_call}
 use Rattle.hosts.specs.Place.{about}
-use Rattle.image_volumes.specs.Keeping.{keeps_kind}
-use Rattle.image_volumes.specs.declared.judging.Judgment.{Judgment}
+use Rattle.image_kind.specs.Keeping.{keeps_kind}
+use Rattle.image_kind.specs.declared.judging.Judgment.{Judgment}
 use Rattle.outcome.specs.Hints.{image_note}
 use Rattle.outcome.specs.declared.contents.Content.TheVariants as content
 use Rattle.outcome.specs.declared.endings.Ending.{Ending}

@@ -8,9 +8,9 @@ use Rattle.hosts.specs.Streams.{output}
 use Rattle.hosts.specs.declared.faults.HostFault.{HostFault}
 use Rattle.outcome.specs.declared.endings.Ending.{Ending}
 use Rattle.disk_layouts.specs.declared.layouts.Layout.{Layout}
-use Rattle.lenient_images.specs.Lines.{mended_lines}
+use Rattle.image_kind.specs.Lines.{mended_lines}
 use Rattle.image_kind.specs.declared.kinds.ImageKind.{ImageKind}
-use Rattle.image_volumes.specs.Keeping.{two_readings}
+use Rattle.image_kind.specs.Keeping.{two_readings}
 use Rattle.image_files.specs.Judging.{Judges, JudgesBy}
 use Rattle.image_files.specs.Mending.{Mends, TellsLines}
 use Rattle.image_files.specs.Reading.{HoldsAt, IsUnheldImage, IsUnread, Looks, LooksIf}

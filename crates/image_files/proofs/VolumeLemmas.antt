@@ -9,12 +9,12 @@ use Rattle.disk_layouts.specs.Laws.{ReadsWhatItLays}
 use Rattle.disk_layouts.specs.declared.faults.DiskFault.TheVariants.{TooLong, NoTape, Memory}
 use Rattle.disk_layouts.specs.declared.layouts.Layout.{Layout}
 use Rattle.disk_layouts.specs.declared.layouts.Layout.TheVariants.{First, Second, Dectape}
-use Rattle.image_volumes.specs.Keeping.{is_same_place, number_of}
-use Rattle.image_volumes.specs.Margins.{body_by}
-use Rattle.image_volumes.specs.Parts.{Parts}
-use Rattle.image_volumes.specs.declared.margins.Margins.{Margins}
-use Rattle.image_volumes.specs.declared.volumes.Volumes.{Volumes}
-use Rattle.image_volumes.specs.declared.volumes.Volumes.TheVariants.{One, Both}
+use Rattle.image_kind.specs.Keeping.{is_same_place, number_of}
+use Rattle.image_kind.specs.Margins.{body_by}
+use Rattle.image_kind.specs.Parts.{Parts}
+use Rattle.image_kind.specs.declared.margins.Margins.{Margins}
+use Rattle.image_kind.specs.declared.volumes.Volumes.{Volumes}
+use Rattle.image_kind.specs.declared.volumes.Volumes.TheVariants.{One, Both}
 use Rattle.outcome.specs.declared.endings.Ending.{Ending}
 use Rattle.outcome.specs.declared.endings.Ending.TheVariants.{Line, Fault}
 use Rattle.program_reports.specs.declared.programs.ProgramLine.TheVariants as line

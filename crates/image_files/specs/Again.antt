@@ -3,7 +3,7 @@ use Rattle.std.specs.Prelude.{◌≡◌, ◌⊎◌, ℕ, None, Result, Ok, Err, 
 use Rattle.std.specs.Global.{Vec}
 use Rattle.hosts.specs.Event.{Event}
 use Rattle.disk_layouts.specs.declared.faults.DiskFault.TheVariants as disk
-use Rattle.image_volumes.specs.Keeping.{two_readings}
+use Rattle.image_kind.specs.Keeping.{two_readings}
 use Rattle.outcome.specs.declared.endings.Ending.{Ending}
 use Rattle.outcome.specs.declared.endings.Ending.TheVariants.{Line, Fault}
 use Rattle.program_reports.specs.declared.programs.ProgramLine.TheVariants as line

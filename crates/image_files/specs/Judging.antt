@@ -5,8 +5,8 @@ use Rattle.disk_layouts.specs.declared.layouts.Layout.{Layout}
 use Rattle.image_kind.specs.declared.kinds.Form.{Form}
 use Rattle.image_kind.specs.declared.kinds.Form.TheVariants as form
 use Rattle.image_kind.specs.declared.kinds.ImageKind.{ImageKind}
-use Rattle.image_volumes.specs.Judging.{judged_kind}
-use Rattle.image_volumes.specs.Keeping.{two_readings}
+use Rattle.image_kind.specs.Judging.{judged_kind}
+use Rattle.image_kind.specs.Keeping.{two_readings}
 use Rattle.outcome.specs.Notes.{plain_text}
 use Rattle.outcome.specs.Readings.{readings_text}
 use Rattle.outcome.specs.declared.endings.Ending.{Ending}

@@ -3,9 +3,9 @@ use Rattle.std.specs.Prelude.{◌≡◌, ℕ, Bool, Option, Result, Ok, Err, Lis
 use Rattle.std.specs.Global.{Vec}
 use Rattle.hosts.specs.Event.{Event, tell_call}
 use Rattle.disk_layouts.specs.declared.layouts.Layout.{Layout}
-use Rattle.lenient_images.specs.Lines.{mended_lines}
-use Rattle.lenient_images.specs.Mending.{IsMended}
-use Rattle.lenient_images.specs.declared.mending.MendedFile.{MendedFile}
+use Rattle.image_kind.specs.Lines.{mended_lines}
+use Rattle.image_kind.specs.Mending.{IsMended}
+use Rattle.image_kind.specs.declared.mending.MendedFile.{MendedFile}
 use Rattle.script8.specs.declared.faults.SessionFault.TheVariants.{Memory}
 use Rattle.outcome.specs.declared.endings.Ending.{Ending}
 use Rattle.outcome.specs.declared.endings.Ending.TheVariants.{Fault}

@@ -10,14 +10,14 @@ use Rattle.hosts.specs.declared.faults.FaultClass.TheVariants as class
 use Rattle.hosts.specs.declared.faults.HostFault.{HostFault}
 use Rattle.hosts.specs.declared.faults.HostFault.TheVariants as host
 use Rattle.image_kind.specs.declared.kinds.ImageKind.{ImageKind}
-use Rattle.image_volumes.specs.Margins.{body_by, body_of, margins_by}
-use Rattle.image_volumes.specs.Judging.{judged_kind}
-use Rattle.image_volumes.specs.declared.judging.Judgment.{Judgment}
-use Rattle.image_volumes.specs.Parts.{Parts, parts_by}
-use Rattle.image_volumes.specs.Volumes.{script_kind, volumes_in, volumes_with}
-use Rattle.image_volumes.specs.declared.margins.Margins.{Margins}
-use Rattle.image_volumes.specs.declared.volumes.Volumes.{Volumes}
-use Rattle.image_volumes.specs.declared.volumes.Volumes.TheVariants.{One, Both}
+use Rattle.image_kind.specs.Margins.{body_by, body_of, margins_by}
+use Rattle.image_kind.specs.Judging.{judged_kind}
+use Rattle.image_kind.specs.declared.judging.Judgment.{Judgment}
+use Rattle.image_kind.specs.Parts.{Parts, parts_by}
+use Rattle.image_kind.specs.Volumes.{script_kind, volumes_in, volumes_with}
+use Rattle.image_kind.specs.declared.margins.Margins.{Margins}
+use Rattle.image_kind.specs.declared.volumes.Volumes.{Volumes}
+use Rattle.image_kind.specs.declared.volumes.Volumes.TheVariants.{One, Both}
 use Rattle.disk_layouts.specs.Disks.{FitsLayout, IsImageIn}
 use Rattle.disk_layouts.specs.Files.{Disk, Opens as OpensDisk}
 use Rattle.disk_layouts.specs.declared.layouts.Layout.{Layout}

@@ -2,8 +2,8 @@
 use Rattle.std.specs.Prelude.{◌≡◌, ◌⊎◌, ℕ, Option, Result, Ok, Err, List}
 use Rattle.hosts.specs.Event.{Event}
 use Rattle.disk_layouts.specs.declared.layouts.Layout.{Layout}
-use Rattle.image_volumes.specs.Parts.{Parts}
-use Rattle.image_volumes.specs.declared.judging.Judgment.{Judgment}
+use Rattle.image_kind.specs.Parts.{Parts}
+use Rattle.image_kind.specs.declared.judging.Judgment.{Judgment}
 use Rattle.outcome.specs.declared.endings.Ending.{Ending}
 use Rattle.outcome.specs.declared.reasons.Reason.TheVariants.{NoRoom}
 use Rattle.image_files.specs.Reasons.{TellsReason}

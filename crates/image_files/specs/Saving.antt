@@ -12,9 +12,9 @@ use Rattle.hosts.specs.declared.faults.HostFault.{HostFault}
 use Rattle.hosts.specs.declared.faults.Unwritten.TheVariants as unwritten
 use Rattle.disk_layouts.specs.Disks.{image_size}
 use Rattle.disk_layouts.specs.Files.{Disk, HasLaid}
-use Rattle.image_volumes.specs.Keeping.{keeps_kind}
-use Rattle.image_volumes.specs.Parts.{Parts}
-use Rattle.image_volumes.specs.declared.judging.Judgment.{Judgment}
+use Rattle.image_kind.specs.Keeping.{keeps_kind}
+use Rattle.image_kind.specs.Parts.{Parts}
+use Rattle.image_kind.specs.declared.judging.Judgment.{Judgment}
 use Rattle.outcome.specs.Contents.{content_name}
 use Rattle.outcome.specs.Notes.{file_text}
 use Rattle.outcome.specs.declared.contents.Content.{Content}

@@ -2,8 +2,8 @@
 ghost use Rattle.std.specs.Prelude.{◌≡◌, ℕ, List};
 ghost use Rattle.hosts.specs.Place.{about};
 ghost use Rattle.hosts.specs.Streams.{output};
-ghost use Rattle.image_volumes.specs.Margins.{margins_by};
-ghost use Rattle.image_volumes.specs.Volumes as meant;
+ghost use Rattle.image_kind.specs.Margins.{margins_by};
+ghost use Rattle.image_kind.specs.Volumes as meant;
 ghost use Rattle.image_files.specs.SaveSteps.{MakesBody, WritesAround};
 ghost use Rattle.image_files.specs.Reading.{Opens, OpensForScript, MakesImage, MakesOne, judgment_of};
 ghost use Rattle.image_files.specs.Saving.{Saves, WritesJudged};
@@ -14,10 +14,9 @@ use crate::reasons::tell_reason;
 use crate::saving::write_file;
 use disk_layouts::{DiskFile, Layout};
 use hosts::{Host, Unwritten};
-use image_kind::ImageKind;
-use image_volumes::{
-    Judgment, Margins, PartedFile, Volumes, body_by, judged_kind, keeps_kind, margins_with,
-    script_kind, volumes_with,
+use image_kind::{
+    ImageKind, Judgment, Margins, PartedFile, Volumes, body_by, judged_kind, keeps_kind,
+    margins_with, script_kind, volumes_with,
 };
 use outcome::{Content, Ending, Reason};
 use program_tasks::ImageForm;

@@ -20,7 +20,7 @@ ghost use Rattle.image_files.specs.Saving.{HasSaved, IsFileWith, IsUnsaved, Prin
 ghost use Rattle.image_files.specs.declared.images.Image.{Image as Opened};
 ghost use Rattle.image_files.specs.declared.mending.ImageReading.{ImageReading as How};
 ghost use Rattle.image_files.specs.declared.reading.ImagePlace.{ImagePlace as Held};
-ghost use Rattle.image_volumes.specs.Keeping.{keeps_kind};
+ghost use Rattle.image_kind.specs.Keeping.{keeps_kind};
 
 use disk_layouts::laws::laid_volume;
 use hosts::laws;

@@ -10,7 +10,7 @@ use crate::notes::tell;
 use crate::reading::look_file;
 use disk_layouts::Layout;
 use hosts::Host;
-use lenient_images::{MendedFile, mend_file, mended_text};
+use image_kind::{MendedFile, mend_file, mended_text};
 use outcome::Ending;
 use program_tasks::{ImageForm, volume_named};
 use std::alloc::Global;

@@ -11,9 +11,7 @@ use crate::notes::{tell, tell_note};
 use crate::reasons::{tell_fault, tell_unheld};
 use disk_layouts::{DiskFile, Layout};
 use hosts::{Host, HostFault, hold_file};
-use image_volumes::{
-    Volumes, body_by, body_of, margins_with, script_kind, volumes_in, volumes_with,
-};
+use image_kind::{Volumes, body_by, body_of, margins_with, script_kind, volumes_in, volumes_with};
 use outcome::{Content, Ending, FileNote, NameNote, Note, PlainNote};
 use program_reports::ProgramLine;
 use program_tasks::ImageForm;

@@ -1,3 +1,13 @@
 pub mod Heads
 pub mod Directories
 pub mod Kinds
+pub mod Judging
+pub mod Margins
+pub mod Parts
+pub mod Volumes
+pub mod Keeping
+pub mod MendingLaws
+pub mod Lines
+pub mod Mending
+pub mod Sizes
+pub mod Steps

@@ -3,7 +3,7 @@ use Rattle.std.specs.Prelude.{◌≡◌, ◌⊎◌, ℕ, ◌+◌, Bool, true, fa
 use Rattle.std.specs.Global.{Vec}
 use Rattle.hosts.specs.Event.{Event, tell_call}
 use Rattle.disk_layouts.specs.declared.layouts.Layout.{Layout}
-use Rattle.name_patterns.specs.Patterns.{is_choice}
+use Rattle.name_spelling.specs.Patterns.{is_choice}
 use Rattle.archive_files.specs.declared.faults.ArchiveFault.{ArchiveFault}
 use Rattle.volume_index.specs.Indexing.{Indexes as GivesLines}
 use Rattle.volume_index.specs.declared.styles.IndexStyle.{IndexStyle}

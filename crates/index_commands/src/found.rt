@@ -5,8 +5,8 @@ ghost use Rattle.index_commands.specs.Found.{FindsSame, KeepsLines, ShowsGroups,
 use crate::columns::Columns;
 use hosts::Host;
 use image_files::part_after;
+use index_lines::same_lines;
 use outcome::Ending;
-use same_files::same_lines;
 use std::alloc::Global;
 
 /// What an index has so far, beside the lines that are printed.

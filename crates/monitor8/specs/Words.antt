@@ -5,7 +5,7 @@ use Rattle.byte_reader.specs.Readings.{Reading}
 use Rattle.clap.specs.Words.{Text}
 use Rattle.hosts.specs.Event.{Event, Word, failed_call, print_call, tell_call, terminal_call, word_call}
 use Rattle.hosts.specs.declared.faults.HostFault.TheVariants as host
-use Rattle.index_line.specs.Quoting.{with_quotes}
+use Rattle.index_lines.specs.Quoting.{with_quotes}
 use Rattle.script8.specs.Replies.{fault_line}
 use Rattle.script8.specs.declared.faults.SessionFault.TheVariants.{Memory}
 use Rattle.outcome.specs.Notes.{plain_text}

@@ -5,7 +5,7 @@ ghost use Rattle.monitor8.specs.Words.{GetsWords, RefusesWord, ShowsWord, argume
 
 use hosts::Host;
 use image_files::{tell_line, tell_note};
-use index_line::put_quoted;
+use index_lines::put_quoted;
 use outcome::{Ending, Note, PlainNote};
 use std::alloc::{AllocError, Global};
 

@@ -5,8 +5,8 @@ use Rattle.std.proofs.lemmas.Bool.Decides.{nat_tests}
 use Rattle.pal_sym.specs.Values.{if_none}
 use Rattle.pal8_pools.specs.Asks.{Ask, cell_in}
 use Rattle.pal8_pools.specs.Cells.{ArePairs, IsIn, IsPair, RiseFrom}
-use Rattle.pal8_clash.specs.Clashes.{lowest_clash}
-use Rattle.pal8_clash.specs.Laws.{NoClashIsApart}
+use Rattle.pal8_pools.specs.Clashes.{lowest_clash}
+use Rattle.pal8_pools.specs.ClashLaws.{NoClashIsApart}
 use Rattle.pal8_values.specs.Sums.{Meanings}
 use Rattle.pal8_values.specs.Words.{AskResult, word_value}
 use Rattle.pal8_lex.specs.declared.tokens.Token.{Token}

@@ -7,7 +7,7 @@ use Rattle.word12.specs.declared.sizes.TheConstants.{PAGE}
 use Rattle.pal8_pools.specs.Asks.{Ask}
 use Rattle.pal8_pools.specs.Cells.{ArePairs}
 use Rattle.pal8_pools.specs.Pooled.{PoolTable}
-use Rattle.pal8_clash.specs.Clashes.{AreMarks, OthersStay, lowest_clash, with_word}
+use Rattle.pal8_pools.specs.Clashes.{AreMarks, OthersStay, lowest_clash, with_word}
 use Rattle.pal8_grammar.specs.declared.steps.Step.{Step}
 use Rattle.pal8_grammar.specs.declared.steps.Step.TheVariants as step
 use Rattle.pal8_values.specs.Sums.{Meanings}

@@ -7,13 +7,13 @@ use Rattle.pal8_lex.specs.declared.tokens.Pool.TheVariants.{Own}
 use Rattle.pal8_pools.specs.Asks.{Ask, IsAsked, cell_in}
 use Rattle.pal8_pools.specs.Cells.{IsIn}
 use Rattle.pal8_pools.specs.Laws.{CellsStay}
-use Rattle.pal8_clash.specs.Clashes.{with_word}
+use Rattle.pal8_pools.specs.Clashes.{with_word}
 use Rattle.pal8_pools.specs.Pooled.{with_punched}
 use Rattle.pal8_grammar.specs.declared.steps.Step.{Step}
 use Rattle.pal8_grammar.specs.declared.bodies.Body.{Body}
 use Rattle.pal8_grammar.specs.declared.faults.GrammarFault.{GrammarFault}
 use Rattle.pal8_grammar.specs.Bodies.{Phrase}
-use Rattle.pal8_sym.specs.SourceNames.{NameState}
+use Rattle.pal8_grammar.specs.SourceNames.{NameState}
 use Rattle.pal8_values.specs.Sums.{Meanings}
 use Rattle.pal8_values.specs.Words.{AskResult, ask_of, page_start, word_value}
 use Rattle.pal8_values.specs.Laws.{AsksGrow, LinksAreReached, LiteralsAreReached, Reaches, WordsAskMore, literal_steps, operation_steps}

@@ -6,7 +6,7 @@ use Rattle.pal8_lex.specs.declared.tokens.Token.{Token}
 use Rattle.pal8_lex.specs.declared.rules.End.{End}
 use Rattle.pal8_lex.specs.declared.rules.End.TheVariants as end
 use Rattle.pal8_lex.specs.declared.judging.Radix.{Radix}
-use Rattle.pal8_sym.specs.SourceNames.{Vocabulary, vocabulary_of}
+use Rattle.pal8_grammar.specs.SourceNames.{Vocabulary, vocabulary_of}
 use Rattle.pal8_grammar.specs.Bodies.{Phrase, body_in, body_phrase, free_name, has_free_tags, is_condition, number_tokens, names_file, phrase_by_names, phrase_or_fault, tags_in}
 use Rattle.pal8_grammar.specs.declared.bodies.Body.{Body}
 use Rattle.pal8_grammar.specs.declared.bodies.Body.TheVariants as body

@@ -19,7 +19,7 @@ use Rattle.pal8_asm.specs.Steps.{Closes, HasReadAll, HasTaken, IsMaking, IsOnThe
 use Rattle.pal8_asm.specs.Assembling.{IsMade, MakesWords, Progress, ReadsText, remainder_of}
 use Rattle.pal8_asm.specs.Tapes.{TapeWords, without_clash, unless_clash, nothing_made}
 use Rattle.pal8_pools.specs.Pooled.{Holds, PoolTable}
-use Rattle.pal8_clash.specs.Clashes.{AreMarks}
+use Rattle.pal8_pools.specs.Clashes.{AreMarks}
 use Rattle.pal8_asm.specs.declared.faults.AsmFault.{AsmFault}
 use Rattle.pal8_places.specs.declared.options.Options.{Options}
 use Rattle.pal8_asm.specs.declared.faults.AsmFault.TheVariants.{At, Memory}

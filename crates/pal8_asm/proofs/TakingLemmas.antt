@@ -1,7 +1,7 @@
 -- Statements, one at a time.
 use Rattle.std.proofs.Common.{◌≡◌, ℕ, Bool, true, false, if◌then◌else◌, is_some, Option, None, Result, Ok, Err, length, List, [], sym, ap, ◌∙◌}
 use Rattle.pal8_places.specs.declared.names.KnownNames.{KnownNames}
-use Rattle.pal8_sym.specs.SourceNames.{first_names, names_of}
+use Rattle.pal8_grammar.specs.SourceNames.{first_names, names_of}
 use mathlib.Core.Path.{fun_ext}
 use Rattle.pal8_grammar.specs.Bodies.{Phrase}
 use Rattle.pal8_places.specs.Places.{truth_of, with_statement}

@@ -4,7 +4,7 @@ use Rattle.std.specs.Prelude.{codes}
 use Rattle.word12.specs.Sixbit.{name_number}
 use Rattle.pal_lex.specs.Text.{text_of}
 use Rattle.pal_sym.specs.Permanent.{permanent}
-use Rattle.pal8_sym.specs.Permanent.{permanent as pal8_permanent}
+use Rattle.pal8_grammar.specs.Permanent.{permanent as pal8_permanent}
 use Rattle.pal8_pools.specs.Asks.{Ask, cell_in}
 use Rattle.pal8_asm.specs.declared.faults.Fault.{Fault}
 use Rattle.pal8_asm.specs.Tapes.{TapeWords}

@@ -3,7 +3,7 @@ use Rattle.std.specs.Prelude.{◌≡◌, ℕ, nat_eq, true, false, if◌then◌e
 use Rattle.pal_sym.specs.Values.{if_none}
 use Rattle.pal8_pools.specs.Asks.{Ask, IsAsked, cell_in}
 use Rattle.pal8_pools.specs.Pooled.{is_cell_of}
-use Rattle.pal8_clash.specs.Clashes.{has_word}
+use Rattle.pal8_pools.specs.Clashes.{has_word}
 use Rattle.pal8_asm.specs.Assembled.{result_of_text}
 use Rattle.pal8_asm.specs.Assembling.{IsAssembled}
 use Rattle.pal8_asm.specs.Tapes.{TapeWords}

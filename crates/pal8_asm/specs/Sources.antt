@@ -11,7 +11,7 @@ use Rattle.pal8_lex.specs.declared.tokens.Token.{Token}
 use Rattle.pal8_lex.specs.declared.rules.End.{End}
 use Rattle.pal8_lex.specs.declared.rules.End.TheVariants as end
 use Rattle.pal8_lex.specs.declared.judging.Radix.TheVariants as radix
-use Rattle.pal8_sym.specs.SourceNames.{NameState, first_names, is_fixed, value_of, vocabulary_of}
+use Rattle.pal8_grammar.specs.SourceNames.{NameState, first_names, is_fixed, value_of, vocabulary_of}
 use Rattle.pal8_grammar.specs.Bodies.{Phrase, phrase_by_names}
 use Rattle.pal8_grammar.specs.declared.bodies.Body.{Body}
 use Rattle.pal8_grammar.specs.declared.bodies.Body.TheVariants as body

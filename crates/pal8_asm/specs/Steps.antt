@@ -10,7 +10,7 @@ use Rattle.pal8_lex.specs.Statements.{statement_of}
 use Rattle.pal8_lex.specs.Reading as lex
 use Rattle.pal8_grammar.specs.declared.bodies.Body.{Body}
 use Rattle.pal8_grammar.specs.declared.steps.Step.{Step}
-use Rattle.pal8_sym.specs.SourceNames.{names_of, own_value}
+use Rattle.pal8_grammar.specs.SourceNames.{names_of, own_value}
 use Rattle.std.specs.Ordering.{nat_cmp}
 use Rattle.std.specs.BTreeMap.{get}
 use Rattle.pal8_values.specs.Sums.{Meanings}
@@ -22,7 +22,7 @@ use Rattle.pal8_values.specs.Answering.{IsAsked}
 use Rattle.pal8_values.specs.Words.{AskResult}
 use Rattle.pal8_places.specs.Places.{Standing, code_of, spot_at}
 use Rattle.pal8_asm.specs.Tapes.{TapeWords}
-use Rattle.pal8_clash.specs.Clashes.{AreMarks, lowest_clash}
+use Rattle.pal8_pools.specs.Clashes.{AreMarks, lowest_clash}
 use Rattle.pal8_asm.specs.Sources.{Entry, PassResult, at_place, statement_at, pass_over, statements, with_entries, with_late_entry, words_in}
 use Rattle.pal8_asm.specs.declared.faults.Fault.{Fault}
 use Rattle.pal8_asm.specs.declared.faults.Place.{Place}

@@ -2,8 +2,8 @@
 use Rattle.std.specs.Prelude.{ℕ, ◌/◌, ◌%◌, nat_lt, Bool, false, if◌then◌else◌, Option, Some, None, Result, Ok, Err, List, [], ◌∷◌}
 use Rattle.word12.specs.declared.sizes.TheConstants.{FIELD, PAGE}
 use Rattle.pal8_pools.specs.Asks.{Ask}
-use Rattle.pal8_clash.specs.Clashes.{lowest_clash, with_word}
-use Rattle.pal8_sym.specs.SourceNames.{is_other, with_own}
+use Rattle.pal8_pools.specs.Clashes.{lowest_clash, with_word}
+use Rattle.pal8_grammar.specs.SourceNames.{is_other, with_own}
 use Rattle.pal8_values.specs.Sums.{Meanings, early_value}
 use Rattle.pal8_values.specs.Words.{AskResult, word_value}
 use Rattle.pal8_grammar.specs.declared.steps.Step.{Step}

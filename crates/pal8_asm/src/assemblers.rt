@@ -32,7 +32,7 @@ impl Model for Assembler {
     ghost use Rattle.std.specs.Prelude.{◌<◌};
     ghost use Rattle.std.specs.Coded.{codes};
     ghost use Rattle.pal8_places.specs.contracts.names.KnownNames as known_names;
-    ghost use Rattle.pal8_sym.specs.contracts.source_names.SourceNames as source_names;
+    ghost use Rattle.pal8_grammar.specs.contracts.source_names.SourceNames as source_names;
     ghost use Rattle.pal8_asm.specs.Assembling.{Progress};
 
     ghost Value = { Progress };

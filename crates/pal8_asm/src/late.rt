@@ -2,7 +2,7 @@ ghost use Rattle.std.specs.Prelude.{◌≡◌, ◌<◌, ◌+◌, ◌++◌, ◌�
 ghost use Rattle.std.specs.Ordering.{nat_cmp};
 ghost use Rattle.std.specs.BTreeMap.{get};
 ghost use Rattle.pal_sym.specs.Values.{if_none};
-ghost use Rattle.pal8_sym.specs.SourceNames.{own_value, with_own};
+ghost use Rattle.pal8_grammar.specs.SourceNames.{own_value, with_own};
 ghost use Rattle.pal8_values.specs.Answering.{Answers};
 ghost use Rattle.pal8_places.specs.Passing.{is_late};
 ghost use Rattle.pal8_asm.specs.Kept.{cut, entry_of, total};

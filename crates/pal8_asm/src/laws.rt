@@ -3,7 +3,7 @@
 ghost use Rattle.pal8_asm.specs.Laws.{Apart, FaultStays, NoPoolNoChange, PlacesStay, SkippedIsNothing, ValueIsFound};
 ghost use Rattle.pal8_asm.specs.Reaching.{LinkIsFound, LiteralIsFound};
 
-use pal8_clash::laws::no_clash_is_apart;
+use pal8_pools::clash_laws::no_clash_is_apart;
 use pal8_pools::laws::cells_stay;
 use pal8_values::laws::{links_are_reached, literals_are_reached, words_ask_more};
 

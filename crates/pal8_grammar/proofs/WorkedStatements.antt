@@ -6,7 +6,7 @@ use Rattle.pal_lex.specs.Text.{text_of}
 use Rattle.pal8_lex.specs.Statements.{Statement, statements}
 use Rattle.pal8_lex.specs.declared.judging.Radix.TheVariants.{Octal}
 use Rattle.pal8_lex.specs.declared.tokens.Operator.TheVariants.{Plus, Or}
-use Rattle.pal8_sym.specs.SourceNames.{Vocabulary}
+use Rattle.pal8_grammar.specs.SourceNames.{Vocabulary}
 use Rattle.pal8_grammar.specs.Bodies.{Phrase, phrase_by_names}
 use Rattle.pal8_grammar.specs.declared.bodies.Body.TheVariants as body
 use Rattle.pal8_grammar.specs.declared.steps.Step.TheVariants as step

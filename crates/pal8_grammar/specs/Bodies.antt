@@ -9,8 +9,8 @@ use Rattle.pal8_lex.specs.declared.tokens.Kind.TheVariants.{Name, Number, Charac
 use Rattle.pal8_lex.specs.declared.rules.End.{End}
 use Rattle.pal8_lex.specs.declared.rules.End.TheVariants as end
 use Rattle.pal8_lex.specs.declared.judging.Radix.{Radix}
-use Rattle.pal8_sym.specs.Permanent.{is_reserved}
-use Rattle.pal8_sym.specs.SourceNames.{Vocabulary}
+use Rattle.pal8_grammar.specs.Permanent.{is_reserved}
+use Rattle.pal8_grammar.specs.SourceNames.{Vocabulary}
 use Rattle.pal8_grammar.specs.Values.{sign_of, steps_of}
 pub use Rattle.pal8_grammar.specs.Names.{free_name, name_of}
 use Rattle.pal8_grammar.specs.Names.{device_steps, extension_of, file_steps, one_name, spaced_name, spaced_run}

@@ -3,3 +3,7 @@ pub mod Names
 pub mod Bodies
 pub mod Saying
 pub mod Steps
+pub mod Permanent
+pub mod Laws
+pub mod SourceNames
+pub mod NameSteps

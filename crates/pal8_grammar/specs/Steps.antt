@@ -1,8 +1,8 @@
 -- What the small steps of reading give, for private clauses.
 use Rattle.std.specs.Prelude.{◌≡◌, Bool, true, false, Option, Some, None, Result, Ok, Err, List, [], ◌∷◌}
 use Rattle.std.specs.declared.alloc.AllocError.{AllocError}
-use Rattle.pal8_sym.specs.SourceNames.{names_of, vocabulary_of}
-use Rattle.pal8_sym.specs.declared.source_names.SourceNames.{SourceNames}
+use Rattle.pal8_grammar.specs.SourceNames.{names_of, vocabulary_of}
+use Rattle.pal8_grammar.specs.declared.source_names.SourceNames.{SourceNames}
 use Rattle.pal8_grammar.specs.Values.{Reading, Setting, after_literal}
 use Rattle.pal8_grammar.specs.Bodies.{Phrase}
 use Rattle.pal8_grammar.specs.declared.bodies.Body.{Body}

@@ -12,8 +12,8 @@ use Rattle.pal8_lex.specs.declared.tokens.Pool.{Pool}
 use Rattle.pal8_lex.specs.declared.tokens.Pool.TheVariants.{Own, Zero}
 use Rattle.pal8_lex.specs.declared.judging.Radix.{Radix}
 use Rattle.pal8_lex.specs.declared.judging.Radix.TheVariants.{Octal, Decimal}
-use Rattle.pal8_sym.specs.Permanent.{is_reserved}
-use Rattle.pal8_sym.specs.SourceNames.{Vocabulary}
+use Rattle.pal8_grammar.specs.Permanent.{is_reserved}
+use Rattle.pal8_grammar.specs.SourceNames.{Vocabulary}
 use Rattle.pal8_grammar.specs.declared.steps.Step.{Step}
 use Rattle.pal8_grammar.specs.declared.steps.Step.TheVariants as step
 use Rattle.pal8_grammar.specs.declared.stands.Stand.{Stand}

@@ -1,7 +1,7 @@
 ghost use Rattle.std.specs.Prelude.{◌≡◌, [], ◌∷◌, Ok};
 ghost use Rattle.pal8_lex.specs.Judging.{tag_count};
 ghost use Rattle.pal8_grammar.specs.Bodies.{alone, argument_steps, body_in, body_phrase, expression_steps, form_phrase, has_free_tags, number_tokens, named_phrase, operation_phrase, page_phrase, phrase, phrase_by, phrase_by_names, text_phrase, value_steps, word_phrase};
-ghost use Rattle.pal8_sym.specs.SourceNames.{names_of, vocabulary_of};
+ghost use Rattle.pal8_grammar.specs.SourceNames.{names_of, vocabulary_of};
 ghost use Rattle.pal8_grammar.specs.Steps.{Reads, ReadsBody};
 ghost use Rattle.pal8_grammar.specs.Saying.{Says};
 ghost use Rattle.pal8_grammar.specs.declared.bodies.Body.{Body};
@@ -9,9 +9,8 @@ ghost use Rattle.pal8_grammar.specs.declared.bodies.Body.{Body};
 use crate::forms::{ends_condition, form_by, names_file};
 use crate::kinds::{free_name, is_equals, is_star, is_string, name_of, sign_of};
 use crate::names::spaced_name;
-use crate::{Form, GrammarFault, Reader, Rules, Stand};
+use crate::{Form, GrammarFault, Reader, Rules, SourceNames, Stand, is_reserved};
 use pal8_lex::{End, Kind, Name, Radix, Token, has_bad, has_bad_number, tag_count};
-use pal8_sym::{SourceNames, is_reserved};
 use std::alloc::AllocError;
 
 /// What a body says. Its value reads as steps.

@@ -3,11 +3,10 @@ ghost use Rattle.pal8_grammar.specs.Values.{if_first, is_closing, is_first_sign,
 ghost use Rattle.pal8_grammar.specs.Steps.{setting_of};
 ghost use Rattle.pal8_grammar.specs.Bodies.{is_equals, is_star, is_string};
 ghost use Rattle.pal8_grammar.specs.Names.{free_name, name_of};
-ghost use Rattle.pal8_sym.specs.SourceNames.{names_of, vocabulary_of};
+ghost use Rattle.pal8_grammar.specs.SourceNames.{names_of, vocabulary_of};
 
-use crate::{Rules, Step};
+use crate::{Rules, SourceNames, Step, is_reserved};
 use pal8_lex::{Kind, Name, Number, Operator, Pool, Radix};
-use pal8_sym::{SourceNames, is_reserved};
 use word12::Word;
 
 /// The number of a name of one letter.

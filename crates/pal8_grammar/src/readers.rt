@@ -9,9 +9,8 @@ use crate::kinds::{
 };
 use crate::literals::Literals;
 use crate::stands::{goes_on, is_whole};
-use crate::{Outer, Rules, Stand, Step};
+use crate::{Outer, Rules, SourceNames, Stand, Step};
 use pal8_lex::{Kind, Name, Operator, Pool, Token};
-use pal8_sym::SourceNames;
 use std::alloc::{AllocError, Global};
 use std::marker::Model;
 

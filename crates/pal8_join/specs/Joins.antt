@@ -11,7 +11,7 @@ use Rattle.pal8_lex.specs.Pieces.{ends, pieces, tokens_of}
 use Rattle.pal8_lex.specs.declared.tokens.Token.{Token}
 use Rattle.pal8_lex.specs.declared.rules.End.{End}
 use Rattle.pal8_lex.specs.declared.rules.End.TheVariants as end
-use Rattle.pal8_sym.specs.SourceNames.{vocabulary_of}
+use Rattle.pal8_grammar.specs.SourceNames.{vocabulary_of}
 use Rattle.pal8_grammar.specs.Bodies.{name_of, opens}
 use Rattle.pal8_places.specs.declared.options.Options.{Options}
 use Rattle.pal8_asm.specs.Sources.{PassResult, Source, Statement, first_left, statements, with_next}

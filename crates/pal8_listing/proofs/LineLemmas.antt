@@ -4,7 +4,7 @@ use Rattle.pal_lex.specs.Text.{limit}
 use Rattle.pal8_lex.specs.Text.{line_after, line_count, live}
 use Rattle.pal8_lex.specs.Pieces.{ends, pieces}
 use Rattle.pal8_lex.specs.Statements.{statement_of}
-use Rattle.pal8_sym.specs.SourceNames.{NameState}
+use Rattle.pal8_grammar.specs.SourceNames.{NameState}
 use Rattle.pal8_grammar.specs.Bodies.{Phrase}
 use Rattle.pal8_grammar.specs.declared.steps.Step.{Step}
 use Rattle.pal8_grammar.specs.declared.faults.GrammarFault.{GrammarFault}

@@ -1,6 +1,6 @@
 -- As many words are made as have marks, and a pool has one order.
 use Rattle.std.proofs.Common.{◌≡◌, ℕ, ◌+◌, ◌≤◌, inl, inr, Bool, true, false, ◌&&◌, not, if◌then◌else◌, Option, Some, None, is_some, Result, Ok, Err, length, List, [], ◌∷◌, ◌++◌, refl, sym, ap, subst, ◌∙◌, arith, length-append}
-use Rattle.pal8_clash.specs.Clashes.{with_word}
+use Rattle.pal8_pools.specs.Clashes.{with_word}
 use Rattle.pal8_pools.specs.Asks.{Ask}
 use Rattle.pal8_pools.specs.Cells.{ArePairs, IsIn, RiseFrom}
 use Rattle.pal8_values.specs.Sums.{Meanings}

@@ -5,7 +5,7 @@ use Rattle.pal8_lex.specs.declared.tokens.Kind.{Kind}
 use Rattle.pal8_lex.specs.declared.tokens.Kind.TheVariants.{Name, Number, Character, Here, Operator, Equals, Comma, Star, Opening, Closing, String, Bad}
 use Rattle.pal8_lex.specs.declared.tokens.Operator as sign
 use Rattle.pal8_lex.specs.declared.tokens.Operator.TheVariants.{Plus, Minus, Or, And, Times, Divide}
-use Rattle.pal8_sym.specs.Permanent.{is_reserved}
+use Rattle.pal8_grammar.specs.Permanent.{is_reserved}
 use Rattle.pal8_notes.specs.declared.levels.Level.{Level}
 use Rattle.pal8_notes.specs.declared.levels.Level.TheVariants.{First, Lead, Term, Joined}
 

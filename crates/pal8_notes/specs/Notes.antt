@@ -3,7 +3,7 @@ use Rattle.std.specs.Prelude.{ℕ, nat_eq, nat_lt, Bool, true, false, ◌&&◌, 
 use Rattle.pal8_lex.specs.declared.tokens.Token.{Token}
 use Rattle.pal8_lex.specs.declared.tokens.Kind.{Kind}
 use Rattle.pal8_lex.specs.declared.tokens.Kind.TheVariants.{Name, Number, Character, Here, Operator, Equals, Comma, Star, Opening, Closing, String, Bad}
-use Rattle.pal8_sym.specs.Permanent.{is_reserved}
+use Rattle.pal8_grammar.specs.Permanent.{is_reserved}
 use Rattle.pal8_asm.specs.Sources.{Source, Statement, PassResult, first_left, statements}
 use Rattle.pal8_places.specs.declared.options.Options.{Options}
 use Rattle.pal8_join.specs.Joins.{is_operation, is_read, pass_on}

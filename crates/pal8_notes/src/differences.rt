@@ -8,9 +8,9 @@ ghost use Rattle.pal8_notes.specs.Notes.{are_apart, has_apart, has_tab, has_tab_
 ghost use Rattle.pal8_notes.specs.Texts.{words_of};
 
 use crate::levels::Levels;
+use pal8_grammar::is_reserved;
 use pal8_join::Pass;
 use pal8_lex::{Kind, Token};
-use pal8_sym::is_reserved;
 use std::alloc::{AllocError, Global};
 
 /// How palbart reads a statement in another way.

@@ -3,8 +3,8 @@ ghost use Rattle.std.specs.Prelude.{◌≡◌, ◌∷◌, [], IfOk, OnOk};
 ghost use Rattle.pal8_notes.specs.Closer.{binds_closer, begins_anew, first_levels, is_closer, is_closing, is_joined, is_opening, is_reserved_kind, level_after, levels_with};
 ghost use Rattle.pal8_notes.specs.Steps.{Pops};
 
+use pal8_grammar::is_reserved;
 use pal8_lex::{Kind, Operator, Token};
-use pal8_sym::is_reserved;
 use std::alloc::{AllocError, Global};
 use std::marker::Model;
 

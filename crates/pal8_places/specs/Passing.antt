@@ -2,7 +2,7 @@
 use Rattle.std.specs.Prelude.{◌≡◌, ℕ, Bool, if◌then◌else◌, None, Result, Ok, Err}
 use Rattle.std.specs.Ordering.{nat_cmp}
 use Rattle.std.specs.BTreeSet.{contains}
-use Rattle.pal8_sym.specs.SourceNames.{names_of, own_value}
+use Rattle.pal8_grammar.specs.SourceNames.{names_of, own_value}
 use Rattle.pal8_values.specs.Sums.{Meanings}
 use Rattle.pal8_places.specs.Places.{Standing}
 use Rattle.pal8_places.specs.declared.faults.Code.{Code}

@@ -6,7 +6,7 @@ use Rattle.pal8_lex.specs.Kinds.{is_comma}
 use Rattle.pal8_lex.specs.declared.tokens.Token.{Token}
 use Rattle.pal8_lex.specs.declared.judging.Radix.{Radix}
 use Rattle.pal8_lex.specs.declared.judging.Radix.TheVariants as radix
-use Rattle.pal8_sym.specs.SourceNames.{NameState, is_fixed, is_other, kept_value, names_after_expunge, names_after_fixtab, names_with_operation, names_with_tag, names_with_value, value_of, with_one}
+use Rattle.pal8_grammar.specs.SourceNames.{NameState, is_fixed, is_other, kept_value, names_after_expunge, names_after_fixtab, names_with_operation, names_with_tag, names_with_value, value_of, with_one}
 use Rattle.pal8_grammar.specs.Bodies.{free_name}
 use Rattle.pal8_grammar.specs.declared.bodies.Body.{Body}
 use Rattle.pal8_grammar.specs.declared.bodies.Body.TheVariants as body

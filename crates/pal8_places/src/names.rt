@@ -1,9 +1,9 @@
 ghost use Rattle.std.specs.Prelude.{◌≡◌, ◌<◌, ℕ, false, IfSome, OnOk};
-ghost use Rattle.pal8_sym.specs.SourceNames.{first_names, names_of, with_one};
+ghost use Rattle.pal8_grammar.specs.SourceNames.{first_names, names_of, with_one};
 ghost use Rattle.pal8_places.specs.Passing.{is_late, open_of};
 
+use pal8_grammar::SourceNames;
 use pal8_lex::Name;
-use pal8_sym::SourceNames;
 use std::alloc::{AllocError, Global};
 use std::collections::BTreeSet;
 use word12::Word;

@@ -1,5 +1,5 @@
 ghost use Rattle.std.specs.Prelude.{◌≡◌, ◌<◌, IfOk, Ok, Some, is_some, not};
-ghost use Rattle.pal8_sym.specs.SourceNames.{own_value};
+ghost use Rattle.pal8_grammar.specs.SourceNames.{own_value};
 ghost use Rattle.pal8_values.specs.Sums.{early_value};
 ghost use Rattle.pal8_values.specs.Answering.{Answers};
 ghost use Rattle.pal8_lex.specs.Kinds.{is_comma};
@@ -13,9 +13,8 @@ use crate::places::{
 };
 use crate::{Code, KnownNames, Options, Stop};
 use pal_sym::SymFault;
-use pal8_grammar::{Body, Step, free_name};
+use pal8_grammar::{Body, SourceNames, Step, free_name};
 use pal8_lex::{Kind, Name, Radix, Token};
-use pal8_sym::SourceNames;
 use pal8_values::{ValueFault, early_value, here_of};
 use word12::Word;
 

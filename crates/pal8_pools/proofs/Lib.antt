@@ -3,3 +3,4 @@ pub mod AskLemmas
 pub mod ValueLemmas
 pub mod TableLemmas
 pub mod CellLemmas
+pub mod ClashLemmas

@@ -4,3 +4,6 @@ pub mod Values
 pub mod Pooled
 pub mod Steps
 pub mod Cells
+pub mod Clashes
+pub mod ClashLaws
+pub mod ClashSteps

@@ -5,3 +5,16 @@ pub mod LowestLemmas
 pub mod PoolLemmas
 pub mod TextLemmas
 pub mod LineLemmas
+pub mod DigitLemmas
+pub mod LexLemmas
+pub mod PlainLineLemmas
+pub mod GrammarLemmas
+pub mod PassLemmas
+pub mod BlockLemmas
+pub mod EntryLemmas
+pub mod CellLemmas
+pub mod PlainLemmas
+pub mod PlainMapLemmas
+pub mod TapeLemmas
+pub mod ChoiceLemmas
+pub mod AgainLemmas

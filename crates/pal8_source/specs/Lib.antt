@@ -4,3 +4,7 @@ pub mod Texts
 pub mod Lines
 pub mod Sources
 pub mod Steps
+pub mod Plain
+pub mod Checked
+pub mod Laws
+pub mod CheckSteps

@@ -14,7 +14,7 @@ use Rattle.tape_source.specs.Looks.{is_tagged, name_or_tag}
 use Rattle.tape_source.specs.Sources.{AllGiven, LacksStart, words_of_tape}
 use Rattle.tape_source.specs.Steps.{above_of, gap_of, name_by, remark_of}
 use Rattle.tape_source.specs.declared.faults.ListFault.TheVariants as list
-use Rattle.pal8_sym.specs.Permanent.{is_reserved}
+use Rattle.pal8_grammar.specs.Permanent.{is_reserved}
 use Rattle.pal8_source.specs.Lines.{source_of}
 use Rattle.pal8_source.specs.Pools.{Program, is_pooled}
 use Rattle.pal8_source.specs.Sheets.{Sheet}

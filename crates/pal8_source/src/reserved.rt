@@ -5,8 +5,8 @@ ghost use Rattle.tape_source.specs.Steps.{name_by};
 ghost use Rattle.pal8_source.specs.Sources.{is_word_of_pal8};
 ghost use Rattle.pal8_source.specs.Steps.{IsLowest};
 
+use pal8_grammar::is_reserved;
 use pal8_lex::Name;
-use pal8_sym::is_reserved;
 use source_names::{CellNames, visible_name};
 use word12::{CORE, Cell, sixbit};
 

@@ -4,7 +4,7 @@ use Rattle.pal_lex.specs.Text.{text_of}
 use Rattle.pal8_lex.specs.Kinds.{is_comma}
 use Rattle.pal8_lex.specs.declared.tokens.Token.{Token}
 use Rattle.pal8_lex.specs.declared.rules.End.{End}
-use Rattle.pal8_sym.specs.Permanent.{is_reserved}
+use Rattle.pal8_grammar.specs.Permanent.{is_reserved}
 use Rattle.pal8_grammar.specs.Bodies.{body_in, free_name, is_equals, name_of, opens}
 use Rattle.pal8_asm.specs.Sources.{Source, statements}
 use Rattle.source_places.specs.Spelling.{spelling}

@@ -1,6 +1,6 @@
 -- Which signs of a PAL III source are PAL8's (this project's profile of the two).
 use Rattle.std.specs.Prelude.{ℕ, nat_eq, Bool, ◌||◌, if◌then◌else◌, List, [], ◌∷◌}
-use Rattle.pal8_sym.specs.Permanent.{is_reserved}
+use Rattle.pal8_grammar.specs.Permanent.{is_reserved}
 use Rattle.source_places.specs.Spelling.{spelling}
 use Rattle.source_places.specs.declared.subjects.About.{About}
 use Rattle.source_places.specs.declared.subjects.About.TheVariants.{Nothing, Name, Character}

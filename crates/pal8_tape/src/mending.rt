@@ -9,9 +9,8 @@ ghost use Rattle.pal8_tape.specs.Marks.{begins};
 ghost use Rattle.pal8_tape.specs.Mending.{begins_reserved, with_blanks, free_tags, harmless, harmless_by, harmless_in, harmless_statement, is_definition, is_far_reaching, tag_text, with_part};
 ghost use Rattle.pal8_tape.specs.MendSteps.{text_in};
 
-use pal8_grammar::free_name;
+use pal8_grammar::{free_name, is_reserved};
 use pal8_lex::{End, Kind, Lexer, Name, Token, tag_count};
-use pal8_sym::is_reserved;
 use source_places::{first_bytes, put_spelling};
 use std::alloc::{AllocError, Global};
 

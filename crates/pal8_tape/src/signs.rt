@@ -2,8 +2,8 @@
 ghost use Rattle.std.specs.Prelude.{◌≡◌, IfOk};
 ghost use Rattle.pal8_tape.specs.Signs.{character_sign, is_of_pal8, name_sign, sign_text};
 
+use pal8_grammar::is_reserved;
 use pal8_lex::Name;
-use pal8_sym::is_reserved;
 use source_places::{About, put_spelling};
 use std::alloc::{AllocError, Global};
 

@@ -1,12 +1,11 @@
 ghost use Rattle.std.specs.Prelude.{◌≡◌, ◌<◌, IfSome, false};
-ghost use Rattle.pal8_sym.specs.SourceNames.{own_value};
+ghost use Rattle.pal8_grammar.specs.SourceNames.{own_value};
 ghost use Rattle.pal8_values.specs.Sums.{direct, direct_by, early_value, empty, indirect_bit, is_undivided, join_values, meaning_or, offset_of, here_of, reference_word, with_known, with_place, with_plain, with_value};
 ghost use Rattle.pal8_values.specs.Answering.{Answers};
 
 use crate::ValueFault;
-use pal8_grammar::Step;
+use pal8_grammar::{SourceNames, Step};
 use pal8_lex::{Name, Operator};
-use pal8_sym::SourceNames;
 use word12::{PAGE, Word};
 
 /// The bit of a memory reference that stands for its own page.

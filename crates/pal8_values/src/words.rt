@@ -1,7 +1,7 @@
 ghost use Rattle.std.specs.Prelude.{◌≡◌, ◌<◌, ◌≤◌, ◌+◌, ◌*◌, ◌%◌, ℕ, List};
 ghost use Rattle.pal8_lex.specs.declared.tokens.Pool.TheVariants.{Own};
 ghost use Rattle.word12.specs.declared.sizes.TheConstants.{FIELD, PAGE};
-ghost use Rattle.pal8_sym.specs.SourceNames.{own_value};
+ghost use Rattle.pal8_grammar.specs.SourceNames.{own_value};
 ghost use Rattle.pal8_pools.specs.Asks.{Ask};
 ghost use Rattle.pal8_pools.specs.Pooled.{Holds};
 ghost use Rattle.pal8_values.specs.Words.{full, is_through, is_torn, page_of, page_start, stay_at, value_of, with_ask, with_link, with_close, with_step, word_value};
@@ -10,10 +10,9 @@ ghost use Rattle.pal8_values.specs.Answering.{Gives};
 
 use crate::sums::{Spot, Sum, empty, offset_of, reference_word, with_plain, with_value};
 use crate::{Frame, Frames, ValueFault};
-use pal8_grammar::Step;
+use pal8_grammar::{SourceNames, Step};
 use pal8_lex::Pool;
 use pal8_pools::{PoolFault, Pools};
-use pal8_sym::SourceNames;
 use std::alloc::Global;
 use word12::{PAGE, Word};
 

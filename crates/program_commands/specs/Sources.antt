@@ -3,7 +3,7 @@ use Rattle.std.specs.Prelude.{◌≡◌, ℕ, Bool, true, false, Option, None, S
 use Rattle.std.specs.Global.{Vec, Global}
 use Rattle.hosts.specs.Event.{Event}
 use Rattle.tape_source.specs.declared.faults.ListFault.{ListFault}
-use Rattle.pal8_checked.specs.Checked.{IsCheckedSource}
+use Rattle.pal8_source.specs.Checked.{IsCheckedSource}
 use Rattle.pal8_source.specs.Sources.{IsPal8Fault}
 use Rattle.pal8_source.specs.declared.faults.Pal8Fault.{Pal8Fault}
 use Rattle.tape_reports.specs.Written.{IsSourceText, IsTextFault, fault_of_list, fault_of_pal8}

@@ -7,7 +7,7 @@ use crate::programs::{Program, given_program};
 use hosts::Host;
 use image_files::{look_file, print};
 use outcome::Ending;
-use pal8_checked::checked_source;
+use pal8_source::checked_source;
 use program_reports::SourceFault;
 use program_tasks::SourceForm;
 use std::alloc::Global;

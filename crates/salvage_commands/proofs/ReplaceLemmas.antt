@@ -7,10 +7,10 @@ use Rattle.hosts.specs.Event.{Event}
 use Rattle.hosts.specs.Place.{Step, about}
 use Rattle.hosts.specs.Saving.{replacements}
 use Rattle.hosts.specs.Streams.{path_of_name}
-use Rattle.image_volumes.specs.Keeping.{two_readings}
-use Rattle.image_volumes.specs.Margins.{body_of, margins_in}
-use Rattle.image_volumes.specs.Volumes.{volumes_in}
-use Rattle.image_volumes.specs.declared.margins.Margins.{Margins}
+use Rattle.image_kind.specs.Keeping.{two_readings}
+use Rattle.image_kind.specs.Margins.{body_of, margins_in}
+use Rattle.image_kind.specs.Volumes.{volumes_in}
+use Rattle.image_kind.specs.declared.margins.Margins.{Margins}
 use Rattle.outcome.specs.declared.endings.Ending.{Ending}
 use Rattle.outcome.specs.declared.endings.Ending.TheVariants.{Line, Fault, Failure, Busy, NotWritten, FullOutput, Unreported, NoReader, Misuse}
 use Rattle.program_tasks.specs.declared.forms.ImageForm.{ImageForm}

@@ -2,8 +2,8 @@
 use Rattle.std.specs.Prelude.{◌≡◌, ◌⊎◌, ◌||◌, ℕ, Bool, true, false, not, nat_eq, Option, Result, Ok, Err, List, ◌∷◌, codes, length}
 use Rattle.hosts.specs.Event.{Event, tell_call}
 use Rattle.disk_layouts.specs.declared.layouts.Layout.{Layout}
-use Rattle.image_volumes.specs.Margins.{margins_in}
-use Rattle.image_volumes.specs.declared.margins.Margins.{Margins}
+use Rattle.image_kind.specs.Margins.{margins_in}
+use Rattle.image_kind.specs.declared.margins.Margins.{Margins}
 use Rattle.program_tasks.specs.declared.forms.ImageForm.{ImageForm}
 use Rattle.outcome.specs.declared.endings.Ending.{Ending}
 use Rattle.outcome.specs.declared.endings.Ending.TheVariants.{Failure, Unreported, NoReader}

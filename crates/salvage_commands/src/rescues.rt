@@ -7,7 +7,7 @@ ghost use Rattle.salvage_commands.specs.Rescuing.{Finishes, RescuesFile, Rescues
 
 use hosts::Host;
 use image_files::{judge_file, look_file, make_first, one_volume_in, refuse_image, report};
-use image_volumes::{Margins, margins_in};
+use image_kind::{Margins, margins_in};
 use outcome::Ending;
 use program_tasks::ImageForm;
 use std::alloc::Global;

@@ -21,14 +21,14 @@ use Rattle.system_session.specs.Session.{SessionView}
 use Rattle.image_files.specs.Answers.{Answers, Refuses}
 use Rattle.image_files.specs.Laws.{KeepsFiles}
 use Rattle.image_files.proofs.KeepLemmas.{purely-keeps, same, then-keeps}
-use Rattle.image_volumes.specs.Margins.{body_by, margins_by}
-use Rattle.image_volumes.specs.Parts.{Parts}
+use Rattle.image_kind.specs.Margins.{body_by, margins_by}
+use Rattle.image_kind.specs.Parts.{Parts}
 use Rattle.image_kind.specs.declared.kinds.ImageKind.{ImageKind}
-use Rattle.image_volumes.specs.Keeping.{two_readings}
+use Rattle.image_kind.specs.Keeping.{two_readings}
 use Rattle.image_files.specs.Judging.{JudgesBy}
-use Rattle.image_volumes.specs.Volumes.{script_kind, volumes_with}
-use Rattle.image_volumes.specs.declared.volumes.Volumes.{Volumes}
-use Rattle.image_volumes.specs.declared.volumes.Volumes.TheVariants.{One, Both}
+use Rattle.image_kind.specs.Volumes.{script_kind, volumes_with}
+use Rattle.image_kind.specs.declared.volumes.Volumes.{Volumes}
+use Rattle.image_kind.specs.declared.volumes.Volumes.TheVariants.{One, Both}
 use Rattle.image_files.specs.Reading.{FindsIn, Looks}
 use Rattle.image_files.specs.declared.images.Image.{Image}
 use Rattle.script_commands.specs.Laws.{IsInPlace, IsKeptBefore, IsOneOf, body_of, file_around, image_file}

@@ -3,7 +3,7 @@ use Rattle.std.specs.Prelude.{◌≡◌, ◌⊎◌, ℕ, List, [], ◌∷◌, �
 use Rattle.disk_layouts.specs.Files.{Disk}
 use Rattle.hosts.specs.Event.{Event}
 use Rattle.hosts.specs.Streams.{may_replace}
-use Rattle.image_volumes.specs.Parts.{Parts, file_of}
+use Rattle.image_kind.specs.Parts.{Parts, file_of}
 use Rattle.volume_image.specs.Image.{IsImageOf}
 use Rattle.image_files.specs.declared.images.Image.{Image}
 use Rattle.script_commands.specs.Steps.{Step, Saves, Fails, Replies, Prints, Refuses, Shows, Cuts, AreDone, last_image}

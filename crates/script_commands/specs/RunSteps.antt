@@ -8,9 +8,9 @@ use Rattle.hosts.specs.Streams.{errors, may_replace, output_text}
 use Rattle.hosts.specs.declared.faults.Durability.{Durability}
 use Rattle.hosts.specs.declared.faults.Durability.TheVariants.{Certain, Unknown}
 use Rattle.hosts.specs.declared.faults.PrintFault.{PrintFault}
-use Rattle.image_volumes.specs.Keeping.{keeps_kind}
-use Rattle.image_volumes.specs.Parts.{Parts}
-use Rattle.image_volumes.specs.declared.judging.Judgment.{Judgment}
+use Rattle.image_kind.specs.Keeping.{keeps_kind}
+use Rattle.image_kind.specs.Parts.{Parts}
+use Rattle.image_kind.specs.declared.judging.Judgment.{Judgment}
 use Rattle.outcome.specs.Contents.{content_name}
 use Rattle.outcome.specs.Notes.{file_text, name_text}
 use Rattle.outcome.specs.declared.contents.Content.TheVariants as content

@@ -10,9 +10,9 @@ use Rattle.hosts.specs.declared.faults.Durability.TheVariants.{Certain, Unknown}
 use Rattle.hosts.specs.declared.faults.PrintFault.{PrintFault}
 use Rattle.hosts.specs.declared.faults.Unwritten.TheVariants as unwritten
 use Rattle.disk_layouts.specs.Files.{Disk, HasLaid}
-use Rattle.image_volumes.specs.Keeping.{keeps_kind}
-use Rattle.image_volumes.specs.declared.judging.Judgment.{Judgment}
-use Rattle.image_volumes.specs.Parts.{HasBody, Parts, file_of}
+use Rattle.image_kind.specs.Keeping.{keeps_kind}
+use Rattle.image_kind.specs.declared.judging.Judgment.{Judgment}
+use Rattle.image_kind.specs.Parts.{HasBody, Parts, file_of}
 use Rattle.script8.specs.Replies.{answer_lines}
 use Rattle.script8.specs.declared.entries.Entry.{Entry}
 use Rattle.script8.specs.declared.faults.SessionFault.{SessionFault}

@@ -13,7 +13,7 @@ ghost use Rattle.script_commands.specs.Steps.{is_unknown, once_note, or_else};
 use crate::progress::Progress;
 use hosts::{Durability, Host, Unwritten, save_file};
 use image_files::{Image, refuse_kind, tell_reason};
-use image_volumes::{Judgment, PartedFile, keeps_kind};
+use image_kind::{Judgment, PartedFile, keeps_kind};
 use outcome::{Content, Ending, FileNote, Reason};
 use program_tasks::Saving;
 use script8::SessionFault;

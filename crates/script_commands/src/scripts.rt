@@ -23,7 +23,7 @@ use image_files::{
     Image, ImagePlace, ending_after, judge_file, look_file, refuse_image, script_volume_in,
     tell_note,
 };
-use image_volumes::Judgment;
+use image_kind::Judgment;
 use os8_dir::DirFault;
 use outcome::{Ending, NameNote, Note};
 use program_tasks::{ImageForm, RunForm, Saving};

@@ -28,8 +28,8 @@ use Rattle.image_files.specs.Places.{IsApart, IsSaidApart}
 use Rattle.image_files.specs.Reading.{Looks, LooksAt, Opens, hold_calls, with_lock_note}
 use Rattle.image_files.specs.Reasons.{TellsReason, TellsUnheld, TellsUnless, is_untold}
 use Rattle.image_files.specs.Saving.{Prints, Reports, SavesIf, Stores, TellsCannot, Writes, WritesIf as SavesKept}
-use Rattle.image_volumes.specs.Keeping.{keeps_kind}
-use Rattle.image_volumes.specs.declared.judging.Judgment.{Judgment}
+use Rattle.image_kind.specs.Keeping.{keeps_kind}
+use Rattle.image_kind.specs.declared.judging.Judgment.{Judgment}
 use Rattle.outcome.specs.declared.reasons.Reason.{Reason}
 use Rattle.outcome.specs.declared.reasons.Reason.TheVariants as reason
 use Rattle.image_files.specs.Stored.{stored_line}

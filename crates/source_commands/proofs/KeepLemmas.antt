@@ -42,8 +42,8 @@ use Rattle.image_files.specs.Making.{IsUnheldFile, MakesBy, MakesFile, ending_of
 use Rattle.image_files.specs.Inputs.{TakesInput}
 use Rattle.image_files.specs.Stored.{stored_line}
 use Rattle.image_files.specs.Places.{IsApart}
-use Rattle.image_volumes.specs.Keeping.{keeps_kind}
-use Rattle.image_volumes.specs.declared.judging.Judgment.{Judgment}
+use Rattle.image_kind.specs.Keeping.{keeps_kind}
+use Rattle.image_kind.specs.declared.judging.Judgment.{Judgment}
 use Rattle.image_files.specs.Reading.{Looks, LooksAt, Opens, hold_calls, with_lock_note}
 use Rattle.image_files.specs.Saving.{IsDone, Prints, SavesIf, Stores, Writes, Reports, WritesIf as SavesKept}
 use Rattle.image_files.specs.Work.{Then, Purely}

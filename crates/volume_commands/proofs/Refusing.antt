@@ -1,7 +1,7 @@
 -- Commands that have changed no file where they are refused.
 use Rattle.std.proofs.Common.{ℕ, Bool, true, false, Option, None, Some, Result, Ok, Err, List, [], ◌∷◌, inl, inr, length, map, bytes_eq, codes}
 use Rattle.hosts.specs.Event.{Event}
-use Rattle.name_patterns.specs.Patterns.{has_pattern}
+use Rattle.name_spelling.specs.Patterns.{has_pattern}
 use Rattle.outcome.specs.declared.endings.Ending.{Ending}
 use Rattle.archive_files.specs.Asking.{Target, AtBlock, target_of}
 use Rattle.archive_files.specs.declared.faults.ArchiveFault.{ArchiveFault}

@@ -12,7 +12,7 @@ use archive_files::Asked;
 use archive_many::{OpenVolume, Wish, first_unfound, wishes_of};
 use hosts::Host;
 use image_files::{open_volume, tell_note};
-use name_patterns::has_pattern;
+use name_spelling::has_pattern;
 use os8_files::FileFault;
 use outcome::{Ending, NameNote, Note};
 use program_tasks::DeleteForm;

@@ -12,9 +12,9 @@ use Rattle.os8_dir.specs.Entries.{DirectoryState}
 use Rattle.os8_dir.specs.Found.{FilePlace, files_at}
 use Rattle.os8_dir.specs.Files.{run}
 use Rattle.os8_dir.specs.Reading.{directory_of}
-use Rattle.name_patterns.specs.Patterns.{is_choice, matches}
-use Rattle.index_line.specs.Lines.{index_line}
-use Rattle.index_line.specs.declared.lines.IndexEntry.{IndexEntry}
+use Rattle.name_spelling.specs.Patterns.{is_choice, matches}
+use Rattle.index_lines.specs.Lines.{index_line}
+use Rattle.index_lines.specs.declared.lines.IndexEntry.{IndexEntry}
 use Rattle.archive_files.specs.declared.faults.ArchiveFault.{ArchiveFault}
 use Rattle.archive_files.specs.Getting.{line_feeds}
 use Rattle.archive_files.specs.Opening.{IsUnopened}

@@ -12,7 +12,7 @@ use crate::words::words_at;
 use crate::years::last_in;
 use archive_files::ArchiveFault;
 use archive_files::parts::volume_of;
-use index_line::{IndexEntry, put_index};
+use index_lines::{IndexEntry, put_index};
 use os8_dir::laws::sound_directory;
 use os8_dir::{DirEntry, DirFault, Directory};
 use script8::SessionFault;

@@ -1,7 +1,7 @@
 /// Which files an index has, and which years their dates mean.
 #[derive(Drop)]
 pub struct IndexStyle {
-    /// The word that chooses them, as `name_patterns::is_choice` takes it: a name, or a pattern; `*.*` chooses all.
+    /// The word that chooses them, as `name_spelling::is_choice` takes it: a name, or a pattern; `*.*` chooses all.
     pub find: String,
 
     /// The text that they hold, if one is wanted: they are texts then.

@@ -5,21 +5,21 @@ use Rattle.hosts.specs.Event.{Event, DropLeftovers, failed_call, leftovers_call,
 use Rattle.hosts.specs.Streams.{read}
 use Rattle.disk_layouts.specs.declared.layouts.Layout.{Layout}
 use Rattle.disk_layouts.specs.declared.layouts.Layout.TheVariants.{First, Second}
-use Rattle.image_volumes.specs.Margins.{body_of, margins_in}
-use Rattle.image_volumes.specs.Volumes.{volumes_in}
-use Rattle.image_volumes.specs.declared.margins.Margins.{Margins}
-use Rattle.image_volumes.specs.declared.volumes.Volumes.{Volumes}
-use Rattle.image_volumes.specs.declared.volumes.Volumes.TheVariants.{One, Both}
+use Rattle.image_kind.specs.Margins.{body_of, margins_in}
+use Rattle.image_kind.specs.Volumes.{volumes_in}
+use Rattle.image_kind.specs.declared.margins.Margins.{Margins}
+use Rattle.image_kind.specs.declared.volumes.Volumes.{Volumes}
+use Rattle.image_kind.specs.declared.volumes.Volumes.TheVariants.{One, Both}
 use Rattle.outcome.specs.Notes.{leftovers_text, margins_text}
 use Rattle.outcome.specs.declared.endings.Ending.{Ending}
 use Rattle.program_reports.specs.declared.programs.ProgramLine.{ProgramLine}
 use Rattle.program_tasks.specs.declared.forms.CheckForm.{CheckForm}
 use Rattle.image_files.specs.Answers.{Answers, AreLines}
 use Rattle.std.specs.Global.{Vec}
-use Rattle.lenient_images.specs.Lines.{mended_lines}
+use Rattle.image_kind.specs.Lines.{mended_lines}
 use Rattle.image_files.specs.Leftovers.{images_among}
 use Rattle.image_kind.specs.declared.kinds.ImageKind.{ImageKind}
-use Rattle.image_volumes.specs.Keeping.{two_readings}
+use Rattle.image_kind.specs.Keeping.{two_readings}
 use Rattle.image_files.specs.Judging.{JudgesBy}
 use Rattle.image_files.specs.Mending.{TellsLines}
 use Rattle.image_files.specs.Reading.{JudgesLooked, LooksIf, LooksImage, file_named, reading_named}

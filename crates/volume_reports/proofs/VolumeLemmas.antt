@@ -2,8 +2,8 @@
 use Rattle.std.proofs.Common.{◌≡◌, ℕ, Bool, Option, Result, List, subst, sym}
 use Rattle.hosts.specs.Event.{Event}
 use Rattle.disk_layouts.specs.declared.layouts.Layout.{Layout}
-use Rattle.image_volumes.specs.declared.volumes.Volumes.{Volumes}
-use Rattle.image_volumes.specs.declared.volumes.Volumes.TheVariants.{One, Both}
+use Rattle.image_kind.specs.declared.volumes.Volumes.{Volumes}
+use Rattle.image_kind.specs.declared.volumes.Volumes.TheVariants.{One, Both}
 use Rattle.outcome.specs.declared.endings.Ending.{Ending}
 use Rattle.image_files.specs.Work.{Then, Purely}
 use Rattle.volume_reports.specs.declared.reports.ReportKind.{ReportKind}

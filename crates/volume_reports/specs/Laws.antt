@@ -5,14 +5,14 @@ use Rattle.hosts.specs.Event.{Event, look_call}
 use Rattle.program_tasks.specs.declared.forms.CheckForm.{CheckForm}
 use Rattle.disk_layouts.specs.declared.layouts.Layout.{Layout}
 use Rattle.disk_layouts.specs.declared.layouts.Layout.TheVariants.{First, Second}
-use Rattle.image_volumes.specs.Margins.{body_of}
-use Rattle.image_volumes.specs.Volumes.{volumes_in}
-use Rattle.image_volumes.specs.declared.volumes.Volumes.{Volumes}
-use Rattle.image_volumes.specs.declared.volumes.Volumes.TheVariants.{One, Both}
+use Rattle.image_kind.specs.Margins.{body_of}
+use Rattle.image_kind.specs.Volumes.{volumes_in}
+use Rattle.image_kind.specs.declared.volumes.Volumes.{Volumes}
+use Rattle.image_kind.specs.declared.volumes.Volumes.TheVariants.{One, Both}
 use Rattle.image_files.specs.Reading.{FindsVolume, file_named, reading_named}
 use Rattle.image_files.specs.declared.mending.ImageReading.{ImageReading}
-use Rattle.lenient_images.specs.Mending.{IsMended}
-use Rattle.lenient_images.specs.declared.mending.MendedFile.{MendedFile}
+use Rattle.image_kind.specs.Mending.{IsMended}
+use Rattle.image_kind.specs.declared.mending.MendedFile.{MendedFile}
 use Rattle.volume_reports.specs.Checking.{kind_of_check, reading_of_check}
 use Rattle.volume_reports.specs.Reporting.{Reports}
 use Rattle.volume_reports.specs.declared.reports.Report.{Report}

@@ -4,11 +4,11 @@ use Rattle.std.specs.Global.{Vec, Global}
 use Rattle.hosts.specs.Event.{Event, tell_call}
 use Rattle.disk_layouts.specs.declared.layouts.Layout.{Layout}
 use Rattle.disk_layouts.specs.declared.layouts.Layout.TheVariants.{First, Second}
-use Rattle.image_volumes.specs.Margins.{body_of, margins_in}
-use Rattle.image_volumes.specs.Volumes.{volumes_in}
-use Rattle.image_volumes.specs.declared.margins.Margins.{Margins}
-use Rattle.image_volumes.specs.declared.volumes.Volumes.{Volumes}
-use Rattle.image_volumes.specs.declared.volumes.Volumes.TheVariants.{One, Both}
+use Rattle.image_kind.specs.Margins.{body_of, margins_in}
+use Rattle.image_kind.specs.Volumes.{volumes_in}
+use Rattle.image_kind.specs.declared.margins.Margins.{Margins}
+use Rattle.image_kind.specs.declared.volumes.Volumes.{Volumes}
+use Rattle.image_kind.specs.declared.volumes.Volumes.TheVariants.{One, Both}
 use Rattle.script8.specs.declared.faults.SessionFault.TheVariants.{Memory}
 use Rattle.outcome.specs.Notes.{margins_text}
 use Rattle.outcome.specs.declared.endings.Ending.{Ending}

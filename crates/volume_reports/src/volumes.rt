@@ -1,8 +1,8 @@
 //! The reports of the volumes in an image file: of the one that is asked for, or else of each that the file has by its kind.
 ghost use Rattle.std.specs.Prelude.{◌≡◌, ◌&&◌};
 ghost use Rattle.image_files.specs.Answers.{AreLines};
-ghost use Rattle.image_volumes.specs.Margins as margins;
-ghost use Rattle.image_volumes.specs.Volumes as meant;
+ghost use Rattle.image_kind.specs.Margins as margins;
+ghost use Rattle.image_kind.specs.Volumes as meant;
 ghost use Rattle.image_files.specs.Reading.{reading_of};
 ghost use Rattle.image_files.specs.Work.{Then, Purely};
 ghost use Rattle.image_files.specs.Ending.{EndsSound};
@@ -17,7 +17,7 @@ use crate::reports::{
 use disk_layouts::Layout;
 use hosts::Host;
 use image_files::{ImageReading, end_sound, look_image, part_after, tell_note, volume_in};
-use image_volumes::{Margins, Volumes, body_of, margins_in, volumes_in};
+use image_kind::{Margins, Volumes, body_of, margins_in, volumes_in};
 use outcome::{Ending, Note};
 use program_tasks::ImageForm;
 use std::alloc::Global;

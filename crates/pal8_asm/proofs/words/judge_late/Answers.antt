@@ -1,4 +1,4 @@
-use Rattle.pal8_sym.specs.SourceNames.{own_value}
+use Rattle.pal8_grammar.specs.SourceNames.{own_value}
 use Rattle.pal8_asm.specs.Kept.{entry_of}
 use Rattle.pal8_asm.specs.Tapes.{late_value}
 use Rattle.pal8_asm.proofs.MakingLemmas.{as_asked, asked_fault, value_fails}

@@ -1,5 +1,5 @@
 use Rattle.std.proofs.Common.{◌∙◌, Err, ap, subst}
-use Rattle.pal8_sym.specs.SourceNames.{own_value}
+use Rattle.pal8_grammar.specs.SourceNames.{own_value}
 use Rattle.pal8_asm.specs.Kept.{entry_of}
 use Rattle.pal8_asm.specs.Steps.{IsMaking, Makes, late_of}
 use Rattle.pal8_asm.specs.Tapes.{late_after, with_entry}

@@ -1,5 +1,5 @@
 use Rattle.std.proofs.Common.{◌≤◌, Result, length}
-use Rattle.pal8_sym.specs.SourceNames.{own_value}
+use Rattle.pal8_grammar.specs.SourceNames.{own_value}
 use Rattle.pal8_asm.specs.Kept.{cut, total}
 use Rattle.pal8_asm.specs.Tapes.{TapeWords, with_entries}
 use Rattle.pal8_asm.specs.Steps.{IsMaking, late_of}

@@ -1,5 +1,5 @@
 use Rattle.std.proofs.Common.{◌∙◌, ◌++◌, ap}
-use Rattle.pal8_sym.specs.SourceNames.{own_value}
+use Rattle.pal8_grammar.specs.SourceNames.{own_value}
 use Rattle.pal8_asm.specs.Sources.{with_values}
 use Rattle.pal8_asm.specs.Steps.{late_of}
 use Rattle.pal8_asm.proofs.MakingLemmas.{known_made, none_known}

@@ -1,5 +1,5 @@
 use Rattle.std.proofs.Common.{◌≡◌, Err, None, subst}
-use Rattle.pal8_sym.specs.SourceNames.{own_value}
+use Rattle.pal8_grammar.specs.SourceNames.{own_value}
 use Rattle.pal8_asm.specs.Kept.{entry_of}
 use Rattle.pal8_asm.specs.Steps.{IsJudgedLate, late_of}
 use Rattle.pal8_asm.specs.Tapes.{late_fault, late_value}

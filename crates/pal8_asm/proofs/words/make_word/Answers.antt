@@ -1,7 +1,7 @@
 use Rattle.std.proofs.Common.{◌∙◌, ◌/◌, Err, sym, ap, subst}
-use Rattle.pal8_sym.specs.SourceNames.{own_value}
+use Rattle.pal8_grammar.specs.SourceNames.{own_value}
 use Rattle.pal8_pools.specs.Asks.{count}
-use Rattle.pal8_clash.specs.Clashes.{with_word}
+use Rattle.pal8_pools.specs.Clashes.{with_word}
 use Rattle.pal8_values.specs.Answering.{IsAsked}
 use Rattle.pal8_values.specs.Words.{word_value}
 use Rattle.pal8_asm.specs.Kept.{entry_of}

@@ -1,4 +1,4 @@
-use Rattle.pal8_sym.specs.SourceNames.{own_value}
+use Rattle.pal8_grammar.specs.SourceNames.{own_value}
 use Rattle.pal8_values.specs.Words.{word_value}
 use Rattle.pal8_asm.proofs.words.word_at.Goals as goal
 

@@ -1,5 +1,5 @@
 use Rattle.std.proofs.Common.{subst}
-use Rattle.pal8_sym.specs.SourceNames.{own_value}
+use Rattle.pal8_grammar.specs.SourceNames.{own_value}
 use Rattle.pal8_values.specs.Sums.{early_value}
 use Rattle.pal8_values.specs.Answering.{Answers}
 use Rattle.pal8_places.proofs.tags.early_at.Goals as goal

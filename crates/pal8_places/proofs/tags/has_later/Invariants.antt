@@ -1,5 +1,5 @@
 use Rattle.std.proofs.Common.{◌≡◌, length}
-use Rattle.pal8_sym.specs.SourceNames.{own_value}
+use Rattle.pal8_grammar.specs.SourceNames.{own_value}
 use Rattle.pal8_places.specs.Places.{has_later}
 use Rattle.pal8_places.proofs.tags.has_later.Given as goal
 

@@ -1,4 +1,4 @@
-use Rattle.pal8_sym.specs.SourceNames.{own_value}
+use Rattle.pal8_grammar.specs.SourceNames.{own_value}
 use Rattle.pal8_values.specs.Sums.{early_value}
 use Rattle.pal8_values.proofs.FaultLemmas.{plain_fails, same_fault}
 use Rattle.pal8_values.proofs.sums.early_value.Goals as goal

@@ -1,5 +1,5 @@
 use Rattle.std.proofs.Common.{◌≡◌, Ok, length}
-use Rattle.pal8_sym.specs.SourceNames.{own_value}
+use Rattle.pal8_grammar.specs.SourceNames.{own_value}
 use Rattle.pal8_values.specs.Sums.{early_value, direct_value, with_plains}
 use Rattle.pal8_values.proofs.sums.early_value.Given as goal
 

@@ -1,4 +1,4 @@
-use Rattle.pal8_sym.specs.SourceNames.{own_value}
+use Rattle.pal8_grammar.specs.SourceNames.{own_value}
 use Rattle.pal8_values.specs.Words.{word_value}
 use Rattle.pal8_values.proofs.WordLemmas.{fails}
 use Rattle.pal8_values.proofs.words.word_value.Goals as goal

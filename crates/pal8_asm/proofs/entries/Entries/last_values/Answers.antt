@@ -1,7 +1,7 @@
 use Rattle.std.proofs.Common.{◌∙◌, ap}
 use Rattle.std.specs.Ordering.{nat_cmp}
 use Rattle.std.specs.BTreeMap.{get}
-use Rattle.pal8_sym.specs.SourceNames.{own_value}
+use Rattle.pal8_grammar.specs.SourceNames.{own_value}
 use Rattle.pal8_places.specs.Passing.{is_late}
 use Rattle.pal8_asm.specs.Kept.{cut}
 use Rattle.pal8_asm.specs.Steps.{late_of}

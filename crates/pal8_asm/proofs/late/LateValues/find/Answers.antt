@@ -1,5 +1,5 @@
 use Rattle.std.proofs.Common.{◌∙◌}
-use Rattle.pal8_sym.specs.SourceNames.{own_value}
+use Rattle.pal8_grammar.specs.SourceNames.{own_value}
 use Rattle.pal8_places.specs.Passing.{is_late}
 use Rattle.pal8_asm.specs.Steps.{late_of}
 use Rattle.pal8_asm.proofs.MakingLemmas.{late_goes_on, others_fit}

@@ -1,7 +1,0 @@
-use Rattle.std.proofs.Common.{[], ◌∷◌}
-use Rattle.block_dump.specs.Rows.{beside}
-use Rattle.block_dump.proofs.LineLemmas.{octals-back}
-use Rattle.block_dump.proofs.laws.shown_words.Goals as goal
-
-pub returns : goal.returns
-returns c = λ form number words fit. octals-back words (λ k within. fit k 0 within) (beside form words) (0o12 ∷ [])

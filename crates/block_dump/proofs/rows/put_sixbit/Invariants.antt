@@ -1,9 +1,0 @@
-use Rattle.std.proofs.Common.{◌≡◌, ◌++◌, length}
-use Rattle.block_dump.specs.Rows.{sixbit_text}
-use Rattle.block_dump.proofs.rows.put_sixbit.Given as goal
-
-abbrev pub invariant-loop-rest : goal.invariant-loop-rest
-invariant-loop-rest l = l.text.items ++ sixbit_text l.rest ≡ l.fn.text.items ++ sixbit_text l.fn.words
-
-abbrev pub decreases-loop-rest : goal.decreases-loop-rest
-decreases-loop-rest l = length l.rest

@@ -1,2 +1,0 @@
-pub mod Patching
-pub mod Laws

@@ -1,4 +1,0 @@
-pub mod Quoting
-pub mod Columns
-pub mod Lines
-pub mod Laws

@@ -1,0 +1,2 @@
+pub mod QuoteLemmas
+mod SameLemmas

@@ -1,4 +1,0 @@
-pub mod FileLemmas
-pub mod Joined
-pub mod LawLemmas
-pub mod WideLemmas

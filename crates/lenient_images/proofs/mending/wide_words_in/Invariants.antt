@@ -1,7 +1,0 @@
-use Rattle.std.proofs.Common.{◌≡◌}
-use Rattle.lenient_images.specs.Mending.{wide_words}
-use Rattle.lenient_images.proofs.mending.wide_words_in.Given as goal
-
--- those of the words so far are listed
-abbrev pub invariant-loop-number : goal.invariant-loop-number
-invariant-loop-number l = l.wide.items ≡ wide_words l.block l.bytes l.start l.number

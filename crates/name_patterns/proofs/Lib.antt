@@ -1,3 +1,0 @@
-pub mod PatternLemmas
-pub mod ChoiceLemmas
-pub mod SpelledLemmas

@@ -1,5 +1,0 @@
-use Rattle.std.proofs.Common.{length}
-use Rattle.name_patterns.proofs.patterns.+code_count.Given as goal
-
-abbrev pub decreases-code_count : goal.decreases-code_count
-decreases-code_count l = length l.codes.now

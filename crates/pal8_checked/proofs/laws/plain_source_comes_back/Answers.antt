@@ -1,5 +1,0 @@
-use Rattle.pal8_checked.proofs.PlainLemmas.{plain_comes_back}
-use Rattle.pal8_checked.proofs.laws.plain_source_comes_back.Goals as goal
-
-pub returns : goal.returns
-returns c = plain_comes_back

@@ -1,4 +1,0 @@
-pub mod Plain
-pub mod Checked
-pub mod Laws
-pub mod Steps

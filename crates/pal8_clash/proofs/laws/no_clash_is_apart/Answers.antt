@@ -1,5 +1,0 @@
-use Rattle.pal8_clash.proofs.ClashLemmas.{no_clash_is_apart}
-use Rattle.pal8_clash.proofs.laws.no_clash_is_apart.Goals as goal
-
-pub returns : goal.returns
-returns c = no_clash_is_apart

@@ -1,3 +1,0 @@
-pub mod Clashes
-pub mod Laws
-pub mod Steps

@@ -1,5 +1,0 @@
-use Rattle.pal8_sym.proofs.NameLemmas.{old_names_stand}
-use Rattle.pal8_sym.proofs.laws.old_names_stand.Goals as goal
-
-pub returns : goal.returns
-returns c = old_names_stand

@@ -1,5 +1,0 @@
-use Rattle.pal8_sym.proofs.NameLemmas.{soft_names_stand}
-use Rattle.pal8_sym.proofs.laws.soft_names_stand.Goals as goal
-
-pub returns : goal.returns
-returns c = soft_names_stand

@@ -1,4 +1,0 @@
-pub mod Permanent
-pub mod Laws
-pub mod SourceNames
-pub mod Steps

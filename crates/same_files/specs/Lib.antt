@@ -1,4 +1,0 @@
-pub mod Digests
-pub mod Lines
-pub mod Same
-pub mod Steps

@@ -1,0 +1,87 @@
+#!/usr/bin/env python3
+"""check_crates.py: crates.txt lists each crate once, after those that it stands on. A crate names each library that is listed for it, in a source, a
+definition or a proof. A library on which one crate alone stands has at least 30 functions, or its reason stands below. The last line is
+'N passed, M failed'.
+"""
+import glob
+import os
+import re
+import sys
+
+sys.dont_write_bytecode = True
+TOP = os.path.dirname(os.path.dirname(os.path.abspath(__file__)))
+sys.path.insert(0, TOP)
+from build.crates import Crates
+from tests.rattle_sources import FUNCTION
+from tests.tally import Tally
+
+# A library that one crate stands on has as many functions at least.
+LEAST = 30
+# Smaller libraries for one crate or none, and why they stand alone.
+ALONE = {
+    "statement_runs": "where a statement begins is a rule of the language, and the listing of its faults is one user of it",
+    "trace8": "the line of a step, which any machine that steps has",
+    "profile8": "counts of fetches, which have nothing of a command",
+    "instructions8": "laws over the assembler, the processor and the disassembler, which none of these can have",
+    "text_columns": "columns that line up, of whatever text",
+    "keeper_laws": "laws over the commands that change an image",
+    "program_laws": "laws over all tasks of the program",
+    "host_output": "standard output as a writer, beside the host that it is of",
+    "monitor8": "the public calls of the program",
+}
+
+
+def text_of(crates: Crates, name: str) -> str:
+    """All that a crate's sources, definitions and proofs say."""
+    return "\n".join(open(path, encoding="utf-8").read() for path in crates.files(name))
+
+
+def functions(crates: Crates, name: str) -> int:
+    """How many functions the sources of a crate have."""
+    return sum(len(FUNCTION.findall(open(path, encoding="utf-8").read())) for path in crates.files(name, ("src",)))
+
+
+def look_at_uses(crates: Crates, tally: Tally) -> None:
+    """Counts the libraries that are listed for a crate and named in it."""
+    for name in crates.names:
+        text = text_of(crates, name)
+        for library in [*crates.own[name], *crates.of_toolchain[name]]:
+            is_named = library == "std" or re.search(rf"\b{library}(?:::|\.)", text)
+            tally.add("uses", "" if is_named else f"check_crates: crates.txt lists {library} for {name}, which doesn't name it")
+
+
+def look_at_users(crates: Crates, tally: Tally) -> None:
+    """Counts the libraries that several crates stand on, or that have many functions, or a reason."""
+    for name in crates.names:
+        users = [it for it in crates.names if name in crates.own[it]]
+        if crates.is_program(name) or name.endswith("_tests"):
+            continue
+        is_alone = len(users) < 2 and functions(crates, name) < LEAST
+        reason = f"check_crates: {name} is small and has the users {users}, so it may be part of one" if is_alone else f"check_crates: {name} needs no reason any more"
+        tally.add("libraries", "" if is_alone == (name in ALONE) else reason)
+
+
+def look_at_order(crates: Crates, tally: Tally) -> None:
+    """Counts the crates that are listed after those that they stand on, and the folders that are listed."""
+    for place, name in enumerate(crates.names):
+        late = [it for it in crates.own[name] if it not in crates.names[:place]]
+        tally.add("places", f"check_crates: crates.txt lists {name} before {', '.join(late)}" if late else "")
+    with open(f"{TOP}/crates.txt", encoding="utf-8") as text:
+        listed = re.findall(r"(?m)^(\w+):", text.read())
+    for name in crates.names:
+        tally.add("lines", "" if listed.count(name) == 1 else f"check_crates: crates.txt lists {name} twice")
+    folders = {os.path.basename(os.path.dirname(path)) for path in glob.glob(f"{TOP}/crates/*/src")}
+    for name in sorted(folders ^ {*crates.names}):
+        tally.add("places", f"check_crates: {name} has a folder or a line of crates.txt alone")
+
+
+def main() -> int:
+    tally, crates = Tally(sys.maxsize), Crates()
+    look_at_order(crates, tally)
+    look_at_uses(crates, tally)
+    look_at_users(crates, tally)
+    return tally.end()
+
+
+if __name__ == "__main__":
+    sys.exit(main())
