@@ -8,6 +8,7 @@ import collections
 import contextlib
 import io
 import os
+import subprocess
 import sys
 from typing import Iterator
 from unittest import mock
@@ -91,6 +92,7 @@ def by_tally() -> Iterator[tuple[str, bool]]:
             status = tally.end()
         yield f"a tally of {given} ends with {printed.getvalue()!r} {status}", (printed.getvalue().splitlines()[-1], status) == wanted
     yield "a case that breaks off is a fault", bool(fault_in(lambda: str(1 // 0)))
+    yield "a command that does not end in time is one", bool(fault_in(lambda: str(subprocess.run(["sleep", "9"], timeout=0.01))))
 
 
 def last_of(words: list[str], rows: str) -> tuple[str, int]:

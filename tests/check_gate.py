@@ -3,8 +3,8 @@
 of `./check` and of `./check quick`, except those that are listed here with their reasons. The parts that run the program do so with every build of
 it. docs/CONTRIBUTING.md names each part. A part fails the gate where it can't start, ends with no count, counts nothing, or ends with another status
 than its last line says. Each fault of tests/calls/faults can be planted. Then `./check`, `./check quick` and `.ci/run` are run as they stand, with a
-stand-in for each part and for `rt ci`: parts that fail, an `rt ci` that fails, breaks off or ends by a signal, and sources that change meanwhile. The
-program counts as proved only where it should. NAME takes `listed`, `by_builds`, `strict`, `fault_texts`, or of the runs those whose names have it. The
+stand-in for each part and for `rt ci`: parts that fail or count otherwise than their rows, an `rt ci` that fails, breaks off or ends by a signal, and
+sources that change meanwhile. The program counts as proved only where it should. NAME takes `listed`, `by_builds`, `strict`, `fault_texts`, or of the runs those whose names have it. The
 last line is 'N passed, M failed'.
 """
 import concurrent.futures
@@ -155,6 +155,22 @@ def runs_that_fail(room: str) -> Iterator[Result]:
         yield f"and names it, {way!r}", f"gate: {part}" in ran.printed and "failed:\n" in ran.printed
 
 
+def runs_that_miscount(room: str) -> Iterator[Result]:
+    """Each gate as it is called, where a part passes with another count than its row of tests/counts.txt has, or with another kind, or has no row."""
+    for number, (call, is_quick) in enumerate(((("check", "quick"), True), (("check",), False), ((".ci/run",), False))):
+        copy, rows = StandInGate(f"{room}/{number}", checks()), named(is_quick)
+        row = next(it for it in rows if it.startswith("tests/model/compare_scripts.py "))
+        copy.ends("tests/model/compare_scripts.py", "echo '2 passed, 0 failed'; exit 0\n")
+        ran, programs = copy.run(*call), len(PROGRAMS) if not is_quick else 1
+        wanted = end_of(len(rows) + (not is_quick) + programs, programs, is_quick)
+        yield f"./{' '.join(call)} fails where a part counts more than its row has: {ran.last}", (ran.status, ran.last) == (1, wanted)
+        yield f"./{' '.join(call)} says which", f"gate: {row}: all are 2, and 1 in tests/counts.txt\n" in ran.printed
+        copy.ends("tests/model/compare_scripts.py", "")
+        copy.loses_row(row)
+        ran = copy.run(*call)
+        yield f"./{' '.join(call)} fails where a part has no row: {ran.last}", (ran.status, ran.last) == (1, end_of(len(rows) + (not is_quick), 1, is_quick))
+
+
 DEEP = "echo '// changed' >>crates/low/src/deep/deeper/more.rt"
 # How `rt ci` ends: with what, whether the gate passes, whether the program counts as proved from then on, and how often it is called.
 RT_CI_ENDS: list[tuple[str, str, bool, bool, int]] = [
@@ -211,7 +227,7 @@ def runs_of_other_words(room: str) -> Iterator[Result]:
 
 
 QUICK: tuple[Callable[[], Iterator[Result]], ...] = (listed, by_builds, strict, fault_texts)
-RUNS: tuple[Callable[[str], Iterator[Result]], ...] = (runs_of_rt_ci, runs_that_fail, runs_that_pass, runs_of_other_words)
+RUNS: tuple[Callable[[str], Iterator[Result]], ...] = (runs_of_rt_ci, runs_that_fail, runs_that_pass, runs_that_miscount, runs_of_other_words)
 
 
 def main(names: list[str]) -> int:

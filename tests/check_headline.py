@@ -3,8 +3,8 @@
 stand by the file of each, with the Rust types and constants that they name. Then comes what those of `Jobs` and of its laws unfold to besides, and what
 those of `run_words` do, which is the whole program.
 
-It fails where that page lacks one of them, and where a type doesn't stand where it is imported from. It fails too where docs/PROVED.md names a file
-or a wrong body that isn't there. The last line is 'N passed, M failed'.
+It fails where that page lacks one of them, and where a type doesn't stand where it is imported from. It fails too where docs/PROVED.md names a file,
+a law or a wrong body that isn't there, and where a sentence of its numbered list has neither a law nor the mark that it has none. The last line is 'N passed, M failed'.
 """
 import os
 import re
@@ -101,6 +101,29 @@ def missing(page: str) -> Iterator[str]:
                 yield f"line {number} names {path}, which is not there"
 
 
+def laws() -> set[str]:
+    """The laws of the tree: the public functions of its files of laws."""
+    found = set()
+    for path in (it for crate in Crates().names for it in files_of(crate)):
+        if os.path.basename(path) == "laws.rt" or os.path.basename(os.path.dirname(os.path.dirname(path))).endswith("_laws"):
+            with open(path, encoding="utf-8") as text:
+                found.update(re.findall(r"(?m)^pub fn (\w+)", text.read()))
+    return found
+
+
+def unlawful(page: str) -> Iterator[str]:
+    """The sentences of the numbered list that neither name a law nor are marked to have none, and the laws that are not there."""
+    known = laws()
+    for item in re.findall(r"(?ms)^\d+\. (.*?)(?=^\d+\. |^$)", page.partition("\n## What the whole program does\n")[2].partition("\n## ")[0]):
+        for sentence in re.split(r"(?<=\.) (?=[A-Z`])", " ".join(item.split())):
+            end = re.search(r" (?:†|\[([^\]]+)\])\.$", sentence)
+            if not end:
+                yield f"this sentence has no law, and no mark: {sentence[:60]}"
+            for name in re.findall(r"`(\w+)`", end[1] or "") if end else []:
+                if name not in known:
+                    yield f"the law {name} is not there"
+
+
 def unlisted(page: str, found: Found, named: Found) -> Iterator[str]:
     """The definitions that a page lacks, and the types and constants."""
     rows = re.findall(r"(?m)^\| `([^`]+)` \| (.*) \|$", page)
@@ -118,7 +141,8 @@ def main() -> int:
     with open(LIST, "w", encoding="utf-8") as written:
         written.write(told)
     with open(PAGE, encoding="utf-8") as text:
-        faults = [*missing(text.read()), *undeclared(named), *unlisted(told, found, named)]
+        page = text.read()
+    faults = [*missing(page), *unlawful(page), *undeclared(named), *unlisted(told, found, named)]
     for fault in faults:
         print(f"check_headline: {fault}")
     print(f"{int(not faults)} passed, {int(bool(faults))} failed")

@@ -129,8 +129,9 @@ def tree() -> dict[str, Counts]:
     found["faults"] = {"calls": len(names("tests/calls/faults/*.fault")), "page": len(names("tests/page/faults/*.edit"))}
     found["worked sources of PAL8"] = {"": lines("tests/model/pal8_rows.txt", "= ")}
     for row in check_liars.rows():
-        liars = found.setdefault(f"liars of {row.words[0]}", {"": 0})
-        liars[""] += len(row.liars)
+        liars = found.setdefault(f"liars of {row.check()}", {"both": 0, "whole": 0, "texts": 0})
+        for kind, some in (("both", row.quick), ("whole", row.whole), ("texts", row.finds)):
+            liars[kind] += len(some)
     return found
 
 

@@ -23,6 +23,7 @@ import time
 sys.dont_write_bytecode = True
 TOP = os.path.dirname(os.path.dirname(os.path.abspath(__file__)))
 sys.path.insert(0, TOP)
+from build import seconds as measure
 from build.crates import Crates
 from build.proved import Wanted
 from tests import counts
@@ -39,11 +40,12 @@ HOSTS = ("tests/hosts/check_saves.py", "--program", "crates/host_trial/out/host_
 UNPROVED = ("target/unproved/pdp8/pdp8", "target/unproved/short_memory/short_memory")
 LIARS = ("tests/check_liars.py",)
 RT_CI = ("rt", "ci")
-TEXTS: list[Words] = [("tests/check_definitions.py",), ("tests/check_headline.py",), ("tests/check_arguments.py",), ("tests/check_memory_claims.py",), ("tests/check_fault_texts.py",)]
-TEXTS += [("tests/check_links.py",), ("tests/check_documents.py",), ("tests/check_names.py",), ("tests/check_octal_numbers.py",)]
-TEXTS += [("tests/page/check_types.py",), ("tests/check_tools.py",), ("tests/check_gate.py",)]
-TEXTS += [("tests/check_try_edits.py",), ("tests/check_counts.py",), ("tests/try_defects.py",)]
-TEXTS += [("tests/check_sums.py",), ("tests/check_laid_program.py",), ("tests/check_try_defects.py",)]
+# those that take longest come first
+TEXTS: list[Words] = [("tests/try_defects.py",), ("tests/page/check_types.py",), ("tests/check_tools.py",), ("tests/check_gate.py",)]
+TEXTS += [("tests/check_try_edits.py",), ("tests/check_sums.py",), ("tests/check_laid_program.py",), ("tests/check_try_defects.py",)]
+TEXTS += [("tests/check_definitions.py",), ("tests/check_headline.py",), ("tests/check_arguments.py",), ("tests/check_memory_claims.py",), ("tests/check_fault_texts.py",)]
+TEXTS += [("tests/check_crates.py",), ("tests/page/check_commands.py",)]
+TEXTS += [("tests/check_links.py",), ("tests/check_documents.py",), ("tests/check_names.py",), ("tests/check_counts.py",), ("tests/check_octal_numbers.py",)]
 RUNS: list[Words] = [("tests/run_sessions.py",), ("tests/model/compare_scripts.py",), ("tests/model/compare_host_commands.py",), ("tests/model/compare_archives.py",)]
 RUNS += [("tests/check_terminal.py",), ("tests/check_killed_writers.py",), ("tests/calls/check_failing_calls.py",), ("tests/check_damaged_images.py",)]
 RUNS += [("tests/hosts/check_races.py",)]
@@ -71,7 +73,7 @@ def parts(is_quick: bool) -> list[list[Words]]:
     """What is run: one group after the other, the parts of a group side by side."""
     if is_quick:
         runs = [(*it, *FEW.get(it[0], ())) for it in runs_of(*UNPROVED)]
-        return [[("tests/build_with_checks.sh",), *TEXTS], [("tests/page/check_page.sh", "--quick"), ("tests/check_builds.py",), ("tests/hosts/check_saves.py",), LIARS, *runs]]
+        return [[("tests/build_with_checks.sh",), *TEXTS], [(*LIARS, "--quick"), ("tests/page/check_page.sh", "--quick"), ("tests/check_builds.py",), ("tests/hosts/check_saves.py",), *runs]]
     rest = [("tests/page/check_page.sh",), ("tests/try_edits.py", "--gate"), ("tests/check_install.py",), ("tests/check_release.py",), PAL8_STATEMENTS, PAL8_SOURCES, HOSTS, LIARS]
     for program, short in PROVED:
         rest += runs_of(program, short)
@@ -216,6 +218,7 @@ def main(words: list[str]) -> int:
     print(f"{seconds:.0f} seconds on {len(os.sched_getaffinity(0))} processors")
     if not failed and not is_quick:
         keep(seconds)
+        measure.keep({crate: cost["proof"] for crate, cost in spent.by_crate().items()}, CRATES)
     print(f"{passed} passed, {failed} failed{' (no proofs)' * is_quick}")
     return 1 if failed else 0
 

@@ -92,6 +92,12 @@ class StandInGate:
     def every_ends(self, script: str) -> None:
         write(f"{self.room}/every", script)
 
+    def loses_row(self, words: str) -> None:
+        """Takes the rows of a part out of what each part must count."""
+        with open(f"{self.top}/tests/counts.txt", encoding="utf-8") as text:
+            rows = [line for line in text if f" | {words} | " not in line]
+        write(f"{self.top}/tests/counts.txt", "".join(rows))
+
     def run(self, *words: str) -> Ran:
         write(f"{self.room}/log", "")
         env = {"PATH": self.path, "ROOM": self.room, "PYTHONDONTWRITEBYTECODE": "1"}

@@ -1,0 +1,2 @@
+#!/bin/sh
+# A page as it is.
