@@ -1,8 +1,8 @@
 #!/usr/bin/env python3
-"""check_counts.py [--write]: tests/counts.txt has a row for each part of the gate and of the quick one by all its words, and none besides. It has the
+"""check_counts.py [--write | --part CHECK]: tests/counts.txt has a row for each part of the gate and of the quick one by all its words, and none besides. It has the
 number of sessions of each text, of wrong bodies of each crate, of defects, faults and liars, as the tree has them. What compares counts with rows
-finds another number, another kind, other words, and a part that is left out. With --write the rows of the tree are written anew. The last line is 'N
-passed, M failed'.
+finds another number, another kind, other words, and a part that is left out. With --write the rows of the tree are written anew. With --part the part
+of the quick gate that runs a check is run alone, and must pass and count what its row says. The last line is 'N passed, M failed'.
 """
 import collections
 import contextlib
@@ -10,6 +10,7 @@ import io
 import os
 import subprocess
 import sys
+import time
 from typing import Iterator
 from unittest import mock
 
@@ -52,6 +53,8 @@ CASES: list[tuple[str, dict[str, counts.Counts | None], list[str]]] = [
 ]
 # A part that counts three.
 SAID = "printf 'by kind: a 1, b 2\\n3 passed, 0 failed\\n'"
+# A part whose kinds are fewer than all that passed.
+SAID_LESS = "printf 'by kind: a 1, b 2\\n4 passed, 0 failed\\n'"
 BAD = ("whole | a | many", "whole | a | 1\nboth | a | 2", "whole | a", "whole | a | x 1, x 2")
 LINES = {"by kind: a 3": {"a": 3}, "by kind: of many 1, of one 30": {"of many": 1, "of one": 30}, "3 passed, 0 failed": {}, "kinds: a 3": {}}
 
@@ -78,6 +81,8 @@ def by_gate() -> Iterator[tuple[str, bool]]:
     for rows, wanted in {"3": 0, "a 1, b 2": 0, "at least 2": 0, "2": 1, "a 2, b 1": 2, "3\nquick | echo | 1": 1}.items():
         last, status = last_of(["--quick"], f"quick | sh -c {SAID} | {rows}\nwhole | echo | 1")
         yield f"with {rows!r} the gate ends with {last!r} {status}", (last, status) == (f"3 passed, {wanted} failed (no proofs)", int(wanted > 0))
+    last, status = last_of(["--quick"], f"quick | sh -c {SAID_LESS} | a 1, b 2", SAID_LESS)
+    yield f"with kinds that are not all the gate ends with {last!r} {status}", (last, status) == ("4 passed, 3 failed (no proofs)", 1)
     last, status = last_of([], f"quick | echo | 1\nwhole | sh -c {SAID} | 3")
     yield f"the whole gate ends with {last!r} {status}", (last, status) == ("3 passed, 0 failed", 0)
 
@@ -95,9 +100,9 @@ def by_tally() -> Iterator[tuple[str, bool]]:
     yield "a command that does not end in time is one", bool(fault_in(lambda: str(subprocess.run(["sleep", "9"], timeout=0.01))))
 
 
-def last_of(words: list[str], rows: str) -> tuple[str, int]:
+def last_of(words: list[str], rows: str, said: str = SAID) -> tuple[str, int]:
     """The last line of a gate that has one part, by these rows, and its status. The other gate has none."""
-    planted, part = counts.read_rows(rows), [[("sh", "-c", SAID)]]
+    planted, part = counts.read_rows(rows), [[("sh", "-c", said)]]
     with contextlib.ExitStack() as changed:
         printed = changed.enter_context(contextlib.redirect_stdout(io.StringIO()))
         changed.enter_context(mock.patch.object(gate.Part, "found", {}))
@@ -139,7 +144,21 @@ def write() -> None:
         text.writelines([*others, *(f"tree | {words} | {counts.written(kinds)}\n" for words, kinds in counts.tree().items())])
 
 
+def try_part(check: str) -> int:
+    """Runs the part of the quick gate that runs a check. The exit status."""
+    part = next(gate.Part(words, time.monotonic()) for group in gate.parts(True) for words in group if words[0] == check)
+    _, failed = part.run()
+    row = next(row for row in counts.all_rows() if row.gate in ("quick", "both") and row.words == " ".join(part.words))
+    found = part.found[row.words]
+    wrong = [f"{row.words} fails"] if failed or found is None else row.faults(found)
+    print(*(f"check_counts: {it}\n" for it in wrong), sep="", end="")
+    print(f"{int(not wrong)} passed, {len(wrong)} failed")
+    return 1 if wrong else 0
+
+
 def main(words: list[str]) -> int:
+    if words[:1] == ["--part"]:
+        return try_part(words[1])
     if words == ["--write"]:
         write()
     found = [*listed(), *(("judgments", [] if is_so else [f"not so: {what}"]) for what, is_so in [*judged(), *by_gate(), *by_tally()])]

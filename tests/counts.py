@@ -126,6 +126,7 @@ def tree() -> dict[str, Counts]:
     found["crates"] = {"": lines("crates.txt", "") - lines("crates.txt", "#") - lines("crates.txt", "\n")}
     found |= wrong_bodies()
     found["defects"] = dict(sorted(collections.Counter(os.path.basename(it).split("-")[0] for it in names("tests/defects/*.defect")).items()))
+    found["breaks"] = dict(sorted(collections.Counter(os.path.basename(it).split("-")[0] for it in names("tests/breaks/*.defect")).items()))
     found["faults"] = {"calls": len(names("tests/calls/faults/*.fault")), "page": len(names("tests/page/faults/*.edit"))}
     found["worked sources of PAL8"] = {"": lines("tests/model/pal8_rows.txt", "= ")}
     for row in check_liars.rows():

@@ -40,8 +40,9 @@ HOSTS = ("tests/hosts/check_saves.py", "--program", "crates/host_trial/out/host_
 UNPROVED = ("target/unproved/pdp8/pdp8", "target/unproved/short_memory/short_memory")
 LIARS = ("tests/check_liars.py",)
 RT_CI = ("rt", "ci")
+DEFECTS = ("tests/try_defects.py",)
 # those that take longest come first
-TEXTS: list[Words] = [("tests/try_defects.py",), ("tests/page/check_types.py",), ("tests/check_tools.py",), ("tests/check_gate.py",)]
+TEXTS: list[Words] = [("tests/page/check_types.py",), ("tests/check_tools.py",), ("tests/check_gate.py",)]
 TEXTS += [("tests/check_try_edits.py",), ("tests/check_sums.py",), ("tests/check_laid_program.py",), ("tests/check_try_defects.py",)]
 TEXTS += [("tests/check_definitions.py",), ("tests/check_headline.py",), ("tests/check_arguments.py",), ("tests/check_memory_claims.py",), ("tests/check_fault_texts.py",)]
 TEXTS += [("tests/check_crates.py",), ("tests/page/check_commands.py",)]
@@ -73,11 +74,11 @@ def parts(is_quick: bool) -> list[list[Words]]:
     """What is run: one group after the other, the parts of a group side by side."""
     if is_quick:
         runs = [(*it, *FEW.get(it[0], ())) for it in runs_of(*UNPROVED)]
-        return [[("tests/build_with_checks.sh",), *TEXTS], [(*LIARS, "--quick"), ("tests/page/check_page.sh", "--quick"), ("tests/check_builds.py",), ("tests/hosts/check_saves.py",), *runs]]
+        return [[("tests/build_with_checks.sh",), (*DEFECTS, "--quick"), *TEXTS], [(*LIARS, "--quick"), ("tests/page/check_page.sh", "--quick"), ("tests/check_builds.py",), ("tests/hosts/check_saves.py",), *runs]]
     rest = [("tests/page/check_page.sh",), ("tests/try_edits.py", "--gate"), ("tests/check_install.py",), ("tests/check_release.py",), PAL8_STATEMENTS, PAL8_SOURCES, HOSTS, LIARS]
     for program, short in PROVED:
         rest += runs_of(program, short)
-    return [TEXTS, [RT_CI, ("tests/build_with_checks.sh",), ("tests/check_builds.py",)], [*rest, ("tests/run_sessions.py", "--unproved")]]
+    return [[DEFECTS, *TEXTS], [RT_CI, ("tests/build_with_checks.sh",), ("tests/check_builds.py",)], [*rest, ("tests/run_sessions.py", "--unproved")]]
 
 
 def clock(seconds: float) -> str:

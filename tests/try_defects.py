@@ -1,8 +1,10 @@
 #!/usr/bin/env python3
-"""try_defects.py [--day DAY] [--seconds N] [NAME..]: plants the defects of tests/defects/*.defect, or those whose names have NAME, one by one in a copy
-of the tree. The check that a defect names must find it: it must fail with a line that has the wanted text. Before that each check must pass in the
+"""try_defects.py [--breaks] [--quick] [--day DAY] [--seconds N] [NAME..]: plants the defects of tests/defects/*.defect, or those whose names have NAME, one by one
+in a copy of the tree. With --breaks these are tests/breaks/*.defect, of which each has a check of the program find less than it must. The liars of that
+check must find it, so the copy has the programs that are built with checks. The check that a defect names must find it: it must fail with a line that has the wanted text. Before that each check must pass in the
 copy as it stands. A check may take N seconds. Some defects go into any file of a kind: into which one, the day decides, which is today's date or DAY,
-as 2026-11-29. It is printed, so that a day can be tried again. The last line is 'N passed, M failed'.
+as 2026-11-29. It is printed, so that a day can be tried again. With --quick only those are planted whose turn it is on the day, every fourth. The last
+line is 'N passed, M failed'.
 
 A defect is a text of lines `WORD: REST`. Those that begin with `#` say what is wrong.
 
@@ -35,10 +37,14 @@ import tempfile
 from dataclasses import dataclass, field, replace
 
 TOP = os.path.dirname(os.path.dirname(os.path.abspath(__file__)))
+# The programs that are built with checks, which a check with broken conditions runs.
+BUILT = "target/unproved"
 # What a check reads of the tree: no built files, nothing of the version control.
 APART = shutil.ignore_patterns(".git", "target", "out", "__pycache__", ".mypy_cache", ".pytest_cache")
 SECONDS = 900
 DAY = datetime.datetime.now(datetime.timezone.utc).date().isoformat()
+# The days after which each defect has had its turn in the quick gate.
+TURNS = 4
 
 
 class BadDefect(Exception):
@@ -115,6 +121,16 @@ def can_be_changed(path: str, changes: list[tuple[str, str]]) -> bool:
     return True
 
 
+def number_of(text: str) -> int:
+    """A number that a text draws."""
+    return int(hashlib.sha256(text.encode()).hexdigest(), 16)
+
+
+def has_turn(name: str, day: str) -> bool:
+    """Whether it is a defect's turn on a day."""
+    return (number_of(name) + datetime.date.fromisoformat(day).toordinal()) % TURNS == 0
+
+
 def drawn(defect: Defect, day: str) -> Defect:
     """A defect, with a file of the day in place of `any` file."""
     kind = next((file for file, _, _ in defect.changes if file.startswith("any ")), "")
@@ -126,7 +142,7 @@ def drawn(defect: Defect, day: str) -> Defect:
     fits = [it for it in sorted(found) if not (but and re.search(but, it)) and can_be_changed(it, changes)]
     if not fits:
         raise BadDefect(f"{defect.name}: no file fits {kind}")
-    path = fits[int(hashlib.sha256(f"{day} {defect.name}".encode()).hexdigest(), 16) % len(fits)]
+    path = fits[number_of(f"{day} {defect.name}") % len(fits)]
     parts = path.split("/")
     names = {"{file}": path, "{crate}": parts[min(1, len(parts) - 1)], "{name}": parts[-1], "{below}": "/".join(parts[2:])}
 
@@ -219,17 +235,19 @@ def why_not_found(tree: Tree, defect: Defect) -> str:
     return ""
 
 
-def defects_of(names: list[str], day: str = DAY) -> list[Defect]:
-    """The defects, or those of them whose names have one of these, as they are on a day."""
-    every = [read_defect(path) for path in sorted(glob.glob(f"{TOP}/tests/defects/*.defect"))]
+def defects_of(names: list[str], day: str = DAY, folder: str = "defects") -> list[Defect]:
+    """The defects of a folder, or those of them whose names have one of these, as they are on a day."""
+    every = [read_defect(path) for path in sorted(glob.glob(f"{TOP}/tests/{folder}/*.defect"))]
     every = [it for it in every if not it.needs or shutil.which(it.needs) or os.environ.get("CI")]
     return [drawn(it, day) for it in every if not names or any(name in it.name for name in names)]
 
 
-def faults(defects: list[Defect], room: str, seconds: float) -> list[str]:
+def faults(defects: list[Defect], room: str, seconds: float, has_programs: bool = False) -> list[str]:
     """What is wrong: one text for each check and each defect, empty where it is as it should be."""
     lanes = len(os.sched_getaffinity(0))
     shutil.copytree(TOP, f"{room}/first", ignore=APART, symlinks=True)
+    if has_programs:
+        shutil.copytree(f"{TOP}/{BUILT}", f"{room}/first/{BUILT}")
     trees: queue.Queue[Tree] = queue.Queue()
     for number in range(lanes):
         trees.put(Tree(f"{room}/{number}", f"{room}/first", seconds))
@@ -248,17 +266,20 @@ def faults(defects: list[Defect], room: str, seconds: float) -> list[str]:
 
 def main(words: list[str]) -> int:
     parser = argparse.ArgumentParser(description=__doc__, formatter_class=argparse.RawDescriptionHelpFormatter)
+    parser.add_argument("--breaks", action="store_true")
+    parser.add_argument("--quick", action="store_true")
     parser.add_argument("--day", default=DAY)
     parser.add_argument("--seconds", type=float, default=SECONDS)
     parser.add_argument("names", nargs="*")
     given = parser.parse_args(words)
     try:
-        defects = defects_of(given.names, given.day)
+        defects = defects_of(given.names, given.day, "breaks" if given.breaks else "defects")
+        defects = [it for it in defects if not given.quick or has_turn(it.name, given.day)]
     except BadDefect as bad:
         print(f"try_defects: {bad}\n0 passed, 1 failed")
         return 1
     with tempfile.TemporaryDirectory(prefix="pdp8-defects-") as room:
-        found = faults(defects, room, given.seconds)
+        found = faults(defects, room, given.seconds, given.breaks)
     for fault in filter(None, found):
         print(f"try_defects: {fault}")
     failed = sum(map(bool, found))

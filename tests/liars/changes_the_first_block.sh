@@ -1,6 +1,6 @@
 #!/bin/sh
-# Changes a byte of each image, where no file and no directory is.
+# Writes its number into each image, where no file and no directory is.
 "$BUILT" "$@"
 status=$?
-for word; do [ ! -f "$word" ] || [ "$(stat -c %s "$word")" -lt 4096 ] || printf U | dd of="$word" bs=1 seek=100 conv=notrunc 2>/dev/null; done
+for word; do [ ! -f "$word" ] || [ "$(stat -c %s "$word")" -lt 4096 ] || printf %s $$ | dd of="$word" bs=1 seek=100 conv=notrunc 2>/dev/null; done
 exit $status

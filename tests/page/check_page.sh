@@ -3,7 +3,7 @@
 # program. With the page's module in node run every session, except those of beyond.txt, and a thousand random scripts of the plain model. Then the
 # faults of faults/gate/ are planted in the page, and a test must notice each. The last line is 'N passed, M failed'. With --quick it takes the page and
 # the program that are built with checks, in place of the proved ones. It takes the sessions of the documents alone, a hundred scripts, and of the
-# browser's tests those of panes.mjs, kept.mjs, losses.mjs and waits.mjs, and ten sequences. Three browsers work side by side, each with a profile of its own; what is
+# browser's tests those of panes.mjs, losses.mjs and waits.mjs. Three browsers work side by side, each with a profile of its own; what is
 # measured comes last. Where there is no Chromium or no node the tests of the page are skipped, which fails where CI is set.
 set -u
 top=$(dirname "$(dirname "$(dirname "$(readlink -f "${BASH_SOURCE[0]}")")")")
@@ -16,7 +16,7 @@ for word; do
 done
 which=--proved program=crates/pdp8/out/pdp8 texts=() scripts=1000 sequences=50 browsed='kept tabs drops hand closed undone losses archives shelf panel disks whole offers'
 if [[ " $* " == *" --quick "* ]]; then
-    which=--unproved program=target/unproved/pdp8/pdp8 texts=(README.md docs/*.md docs/*/*.md) scripts=100 sequences=10 browsed='kept losses'
+    which=--unproved program=target/unproved/pdp8/pdp8 texts=(README.md docs/*.md docs/*/*.md) scripts=100 sequences= browsed=losses
 fi
 folder=target/page
 client=target/wasm/client
@@ -82,7 +82,7 @@ begin served tests/page/run_sessions.py ${texts+"${texts[@]}"}
 begin served tests/model/compare_scripts.py --program "$client" --scripts $scripts
 browse node tests/page/panes.mjs "$program" "$folder"
 for part in $browsed waits; do browse node "tests/page/$part.mjs" "$program" "$folder"; done
-browse node tests/page/sequences.mjs "$program" "$folder" --sequences $sequences
+[ -z "$sequences" ] || browse node tests/page/sequences.mjs "$program" "$folder" --sequences "$sequences"
 if [ "$which" = --proved ]; then
     browse node tests/page/firefox.mjs "$program" "$folder"
     browse tests/page/try_faults.py --gate --program "$program"
