@@ -2,10 +2,10 @@
 """check_gate.py [NAME..]: the gate runs every check of tests/, and fails where a part of it does. Each executable file of tests/ and of its folders is a part
 of `./check` and of `./check quick`, except those that are listed here with their reasons. The parts that run the program do so with every build of
 it. docs/CONTRIBUTING.md names each part. A part fails the gate where it can't start, ends with no count, counts nothing, or ends with another status
-than its last line says. Each fault of tests/calls/faults can be planted. Then `./check`, `./check quick` and `.ci/run` are run as they stand, with a
-stand-in for each part and for `rt ci`: parts that fail or count otherwise than their rows, an `rt ci` that fails, breaks off or ends by a signal, and
-sources that change meanwhile. The program counts as proved only where it should. NAME takes `listed`, `by_builds`, `strict`, `fault_texts`, or of the runs those whose names have it. The
-last line is 'N passed, M failed'.
+than its last line says. Then `./check`, `./check quick` and `.ci/run` are run as they stand, with a stand-in for each part and for `rt ci`: parts that
+fail or count otherwise than their rows, an `rt ci` that fails, breaks off or ends by a signal, and sources that change meanwhile. The program counts
+as proved only where it should. NAME takes `listed`, `by_builds`, `strict`, or of the runs those whose names have it. The last line is 'N passed, M
+failed'.
 """
 import concurrent.futures
 import contextlib
@@ -102,18 +102,6 @@ def strict() -> Iterator[Result]:
     yield "the gate counts all parts of all groups", gate.run([[("sh", "-c", it) for it in PARTS], [("echo", "3 passed, 0 failed")]]) == [
         sum(passed for passed, _ in PARTS.values()) + 3, sum(failed for _, failed in PARTS.values())
     ]
-
-
-def fault_texts() -> Iterator[Result]:
-    """Whether each text that a fault of the system calls changes stands in its file once."""
-    for path in sorted(glob.glob(f"{TOP}/tests/calls/faults/*.fault")):
-        file = ""
-        with open(path, encoding="utf-8") as lines:
-            for word, _, rest in (line.rstrip("\n").partition(": ") for line in lines):
-                file = rest if word == "file" else file
-                if word == "old":
-                    with open(f"{TOP}/{file}", encoding="utf-8") as source:
-                        yield f"{file} has what {os.path.basename(path)} changes", source.read().count(rest) == 1
 
 
 def named(is_quick: bool) -> list[str]:
@@ -226,7 +214,7 @@ def runs_of_other_words(room: str) -> Iterator[Result]:
     yield "where it can't be had, nothing is run", ran.status == 2 and not {*named(False)} & {*ran.parts}
 
 
-QUICK: tuple[Callable[[], Iterator[Result]], ...] = (listed, by_builds, strict, fault_texts)
+QUICK: tuple[Callable[[], Iterator[Result]], ...] = (listed, by_builds, strict)
 RUNS: tuple[Callable[[str], Iterator[Result]], ...] = (runs_of_rt_ci, runs_that_fail, runs_that_pass, runs_that_miscount, runs_of_other_words)
 
 
