@@ -1,7 +1,7 @@
 #!/usr/bin/env python3
-"""check_planted_faults.py: each fault of tests/page/faults/ and tests/calls/faults/, and each break of tests/breaks/, can be planted, though few are in the gate. Each text that it changes
-stands once in its file, and the text in its place is another. A fault of the page names a test of tests/page/, by its file and a part of the test's
-name. The others name a check that is there. Each fault counts as one. The last line is 'N passed, M failed'.
+"""check_planted_faults.py: each fault of tests/page/faults/ and tests/calls/faults/, and each break of tests/breaks/, can be planted, though few are
+in the gate. Each text that it changes stands once in its file, and the text in its place is another. A fault of the page names a test of tests/page/,
+by its file and a part of the test's name. The others name a check that is there. Each fault counts as one. The last line is 'N passed, M failed'.
 """
 import glob
 import os
