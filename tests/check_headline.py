@@ -4,7 +4,8 @@ stand by the file of each, with the Rust types and constants that they name. The
 those of `run_words` do, which is the whole program.
 
 It fails where that page lacks one of them, and where a type doesn't stand where it is imported from. It fails too where docs/PROVED.md names a file,
-a law or a wrong body that isn't there, and where a sentence of its numbered list has neither a law nor the mark that it has none. The last line is 'N passed, M failed'.
+a law or a wrong body that isn't there, and where a sentence of its numbered list has neither a law nor the mark that it has none. It fails too where a
+law speaks of a contract that the program doesn't reach. The last line is 'N passed, M failed'.
 """
 import os
 import re
@@ -18,6 +19,7 @@ from tests.contracts import cited, clauses
 from build.crates import Crates
 from tests.definitions import Found, closure, types, types_in
 from tests.rattle_sources import files_of, source
+from tests.reached import idle_laws
 
 PAGE = f"{TOP}/docs/PROVED.md"
 LIST = f"{TOP}/target/headline.md"
@@ -142,7 +144,7 @@ def main() -> int:
         written.write(told)
     with open(PAGE, encoding="utf-8") as text:
         page = text.read()
-    faults = [*missing(page), *unlawful(page), *undeclared(named), *unlisted(told, found, named)]
+    faults = [*missing(page), *unlawful(page), *idle_laws(), *undeclared(named), *unlisted(told, found, named)]
     for fault in faults:
         print(f"check_headline: {fault}")
     print(f"{int(not faults)} passed, {int(bool(faults))} failed")
