@@ -1,8 +1,9 @@
-mod BackLemmas
+mod AgainLemmas
+pub mod BackLemmas
 mod ChangeLemmas
 mod CopyAllLemmas
 mod CopyLemmas
-mod MakeLemmas
+pub mod MakeLemmas
 pub mod OpenLemmas
 mod PatchLemmas
 pub mod PrepareLemmas
@@ -10,4 +11,5 @@ mod PutAllLemmas
 mod PutLemmas
 pub mod RefuseLemmas
 mod RescueLemmas
+mod SoundLemmas
 pub mod StoreLemmas

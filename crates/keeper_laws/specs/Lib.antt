@@ -4,5 +4,6 @@ pub mod Copied
 pub mod CopiedAll
 pub mod Ended
 pub mod Made
+pub mod Sound
 pub mod Stored
 pub mod StoredAll

@@ -1,5 +1,5 @@
 //! What a command that ended means for who keeps images.
-ghost use Rattle.std.specs.Prelude.{◌≡◌, ◌≢◌, ◌⊎◌, ◌<◌, ℕ, Bool, true, List, Ok, Result, All};
+ghost use Rattle.std.specs.Prelude.{◌≡◌, ◌≢◌, ◌⊎◌, ◌<◌, ℕ, Bool, true, List, [], None, Option, Some, Ok, Result, All};
 ghost use Rattle.std.specs.Global.{Vec};
 ghost use Rattle.hosts.specs.Event.{Event};
 ghost use Rattle.char_pack.specs.declared.forms.GetForm.{GetForm as How};
@@ -7,6 +7,8 @@ ghost use Rattle.char_pack.specs.declared.forms.GetForm.TheVariants as get_as;
 ghost use Rattle.char_pack.specs.declared.forms.PutForm.TheVariants as put_as;
 ghost use Rattle.name_spelling.specs.Reading.{typed_name};
 ghost use Rattle.volume_image.specs.Image.{IsImageOf};
+ghost use Rattle.archive_files.specs.declared.faults.ArchiveFault.{ArchiveFault as Fault};
+ghost use Rattle.archive_files.specs.Checking.{Checks};
 ghost use Rattle.archive_files.specs.Asking.{OfName, Target, asked_name};
 ghost use Rattle.archive_files.specs.Getting.{Gets, IsTapeOf, line_feeds};
 ghost use Rattle.archive_files.specs.Laws.{whole_blocks};
@@ -24,23 +26,28 @@ ghost use Rattle.many_commands.specs.PuttingMany.{PutsMany};
 ghost use Rattle.salvage_commands.specs.Rescuing.{RescuesImage};
 ghost use Rattle.choice_commands.specs.Copying.{CopiesMany};
 ghost use Rattle.volume_commands.specs.Changing.{Renames, Squeezes};
-ghost use Rattle.volume_commands.specs.Copying.{Copies};
+ghost use Rattle.volume_commands.specs.Copying.{Copies, new_name};
 ghost use Rattle.volume_commands.specs.Creating.{CreatesFile, CreatesVolume, IsBlankDisk, IsBlankImage, IsBlankTapeFile};
 ghost use Rattle.volume_commands.specs.declared.creating.TheConstants.{TAPE_BLOCKS, DISK_BLOCKS};
 ghost use Rattle.volume_commands.specs.Deleting.{Deletes};
 ghost use Rattle.volume_commands.specs.GettingBack.{IsPrinted};
 ghost use Rattle.volume_commands.specs.Putting.{Puts};
+ghost use Rattle.volume_commands.specs.Showing.{wanted_file};
 ghost use Rattle.keeper_laws.specs.Changes.{HasDeleted, HasEmptied, HasPatched, HasRenamed, HasSqueezed};
 ghost use Rattle.keeper_laws.specs.Copied.{HasCopied};
 ghost use Rattle.keeper_laws.specs.CopiedAll.{HasCopiedAll};
 ghost use Rattle.keeper_laws.specs.Ended.{EndsAs, RefusesAloud};
-ghost use Rattle.keeper_laws.specs.Made.{EndsMade, EndsRescued, HasCreated};
+ghost use Rattle.keeper_laws.specs.Made.{EndsMade, EndsRescued, HasCreated, HasRescued};
+ghost use Rattle.keeper_laws.specs.Sound.{IsSoundWith, kept_names};
 ghost use Rattle.keeper_laws.specs.Stored.{HasStored};
 ghost use Rattle.keeper_laws.specs.StoredAll.{HasStoredAll};
 
-use archive_files::laws::put_is_got;
+use archive_files::laws::{copied_file, put_is_got};
+use bin_tape::laws::{longer_tape, no_fault};
 use image_files::laws::found_again;
 use volume_commands::laws::refused_changes;
+use volume_image::image_round_trip;
+use volume_salvage::laws::salvaged_files;
 
 /// What each ending of `put`, `copy`, `squeeze`, `rename` and `delete` means for the files of who runs them. The change is made where the command
 /// ends well, and where only its line can't be printed. Where it is refused, nothing is changed. Where its image can't be written, that is
@@ -124,4 +131,35 @@ pub fn put_comes_back()
         → Gets stored.image.bytes.items (OfName name) how (Ok before) → IsPrinted form.image stored.has.file name how before.items }
 {
     put_is_got();
+}
+
+/// What `copy` copied, `get` gives of the image file as it was left, in each form: the bytes that it gave of the file that was copied. The copy has
+/// the name that was typed for it, or else the one by which its file was asked for. Each other file is got as before.
+pub fn copy_comes_back()
+    ensures copies { (form : Copy) (ok : Bool) (old new : List Event) (copied : HasCopied form ok old new) (name : List ℕ) (how : How) (before : Vec ℕ)
+        → typed_name name ≡ Some copied.made.name → Gets copied.from (wanted_file form.file) how (Ok before)
+        → IsPrinted form.to copied.has.file name how before.items }
+    ensures typed { (form : Copy) (ok : Bool) (old new : List Event) (copied : HasCopied form ok old new) (name : List ℕ) → new_name form ≡ Some name
+        → typed_name name ≡ Some copied.made.name }
+    ensures kept { (form : Copy) (ok : Bool) (old new : List Event) (copied : HasCopied form ok old new) (name : List ℕ) → new_name form ≡ None
+        → wanted_file form.file ≡ OfName name → typed_name name ≡ Some copied.made.name }
+    ensures others { (form : Copy) (ok : Bool) (old new : List Event) (copied : HasCopied form ok old new) (name : List ℕ) (how : How) (before : Vec ℕ)
+        → typed_name name ≢ Some copied.made.name → Gets copied.image.bytes.items (OfName name) how (Ok before)
+        → IsPrinted form.to copied.has.file name how before.items }
+{
+    image_round_trip();
+    longer_tape();
+    no_fault();
+    copied_file();
+}
+
+/// What `rescue` wrote, where it kept a file at least, a check finds sound, with just the files that it kept. A check that doesn't find so lacks
+/// memory. The files are those that `check --all` finds sound, but for those that a line says are left out.
+pub fn rescued_is_sound()
+    ensures { (name : List ℕ) (form : Kept) (is_whole ok : Bool) (old new : List Event) (rescued : HasRescued name form is_whole ok old new)
+        (answer : Result (Vec ℕ) Fault) → kept_names rescued.from.items rescued.salvage rescued.salvages ≢ [] → Checks rescued.salvage.image.items answer
+        → IsSoundWith rescued.salvage.image.items (kept_names rescued.from.items rescued.salvage rescued.salvages) answer }
+{
+    image_round_trip();
+    salvaged_files();
 }
