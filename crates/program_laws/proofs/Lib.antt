@@ -1,3 +1,5 @@
+mod AssembleBackLemmas
 mod AssembleLemmas
+mod MadeStatusLemmas
 mod QuietLemmas
 mod StatusLemmas

@@ -1,5 +1,6 @@
 -- What an exit status tells of how a command ended.
 use Rattle.std.proofs.Common.{◌≡◌, ◌≢◌, ◌∙◌, ◌≤◌, ◌⊎◌, ℕ, suc, Bool, true, false, if◌then◌else◌, nat_eq, Option, None, Some, Result, Ok, Err, List, [], ◌∷◌, refl, sym, ap, subst, arith, inl, inr, true≢false}
+use Rattle.std.specs.Global.{Vec}
 use Rattle.byte_reader.specs.Readings.{Reading}
 use Rattle.hosts.specs.Event.{Event}
 use Rattle.hosts.specs.Place.{Step, about, replay}
@@ -20,30 +21,36 @@ use Rattle.outcome.specs.declared.outcomes.Outcome.{Outcome}
 use Rattle.outcome.specs.declared.outcomes.Stream.{Stream}
 use Rattle.outcome.specs.declared.outcomes.Stream.TheVariants.{Output, Errors}
 use Rattle.outcome.specs.Streams.{gives_data}
+use Rattle.archive_commands.specs.declared.patches.WordPatch.{WordPatch}
 use Rattle.archive_files.specs.Asking.{Target}
 use Rattle.program_tasks.specs.declared.forms.CopyForm.{CopyForm}
 use Rattle.program_tasks.specs.declared.forms.CopyManyForm.{CopyManyForm}
+use Rattle.program_tasks.specs.declared.forms.CreateForm.{CreateForm}
 use Rattle.program_tasks.specs.declared.forms.DeleteForm.{DeleteForm}
 use Rattle.program_tasks.specs.declared.forms.ImageForm.{ImageForm}
 use Rattle.program_tasks.specs.declared.forms.PutManyForm.{PutManyForm}
 use Rattle.program_tasks.specs.declared.forms.PutOneForm.{PutOneForm}
+use Rattle.program_tasks.specs.declared.tasks.AssembleForm.{AssembleForm}
 use Rattle.program_tasks.specs.declared.tasks.Task.{Task}
 use Rattle.script8.specs.declared.faults.SessionFault.TheVariants.{Memory}
 use Rattle.image_files.specs.Ending.{EndsAfter, EndsInstead, EndsSo, EndsUnread, PrintsLine, PrintsOutcome, TellsLine, with_note}
-use Rattle.image_files.specs.Laws.{ChangesNothing}
 use Rattle.image_files.specs.Saving.{IsDone, Prints}
 use Rattle.image_files.specs.States.{TellsState, state_at_end, state_refused}
 use Rattle.image_files.specs.declared.states.ChangeState.{ChangeState}
 use Rattle.image_files.specs.declared.states.ImageNotes.{ImageNotes}
+use Rattle.image_files.specs.Work.{Then}
+use Rattle.task_commands.specs.Asking.{AsksFirst, AsksFull, AsksSeen, IsFull}
 use Rattle.task_commands.specs.Changes.{AreBusy, Within}
 use Rattle.task_commands.specs.Tasks.{DoesTask, RunsTask}
-use Rattle.keeper_laws.specs.Changes.{HasDeleted, HasRenamed, HasSqueezed}
+use Rattle.keeper_laws.specs.Changes.{HasDeleted, HasEmptied, HasPatched, HasRenamed, HasSqueezed}
 use Rattle.keeper_laws.specs.Copied.{HasCopied}
 use Rattle.keeper_laws.specs.CopiedAll.{HasCopiedAll}
-use Rattle.keeper_laws.specs.Ended.{AllStay, DoesNothing, EndsAs, MayHoldAPart}
+use Rattle.keeper_laws.specs.Ended.{AllStay, DoesNothing, EndsAs}
+use Rattle.keeper_laws.specs.Made.{HasCreated}
 use Rattle.keeper_laws.specs.Stored.{HasStored}
 use Rattle.keeper_laws.specs.StoredAll.{HasStoredAll}
-use Rattle.program_laws.specs.Statuses.{Means, failed_prints}
+use Rattle.program_laws.specs.Assembled.{HasAssembled}
+use Rattle.program_laws.specs.Statuses.{LeavesImage, Means, MeansSo, failed_prints}
 use Rattle.program_laws.proofs.QuietLemmas.{busy-told, ends-so, tells-state}
 
 -- ## The status of an ending
@@ -193,6 +200,108 @@ done-fails notes it old new status e other = omega (
   after-fails e.outcome None notes (status-is e.outcome (outcome_of false (Ok it)) e.is) e.printed e.told e.between new status e.prints e.after other,
 )
 
+-- ## A question before
+
+seen-nothing : (name : List ℕ) (input : Reading) (is : Bool) (old : List Event) (result : Result (Unit {0}) Ending) (new : List Event) → AsksFull name input is old result new → DoesNothing old new
+seen-nothing name input false old result new p = (λ path. ap (λ (n : List Event). about path n) p.1, ap output p.1)
+seen-nothing name input true old (Ok it) new (is, ok, p) = (λ path. ap (λ (n : List Event). about path n) p, ap output p)
+seen-nothing name input true old (Err ending) new (inl (is, so, ok, p)) = (λ path. ap (λ (n : List Event). about path n) p, ap output p)
+seen-nothing name input true old (Err ending) new (inr p) = (λ path. ap (λ (n : List Event). about path n) p.1, ap output p.1)
+
+full-nothing : (name : List ℕ) (is : Bool) (old new : List Event) → IsFull name is old new → DoesNothing old new
+full-nothing name is old new (inl (bytes, so, p)) = (λ path. ap (λ (n : List Event). about path n) p, ap output p)
+full-nothing name is old new (inr (fault, so, p)) = (λ path. ap (λ (n : List Event). about path n) p, ap output p)
+
+nothing-joined : (old mid new : List Event) → DoesNothing old mid → DoesNothing mid new → DoesNothing old new
+nothing-joined old mid new first next = (λ path. next.0 path ∙ first.0 path, next.1 ∙ first.1)
+
+asked-nothing : (name : List ℕ) (input : Reading) (is : Bool) (old : List Event) (result : Result (Unit {0}) Ending) (new : List Event) → AsksSeen name input is old result new → DoesNothing old new
+asked-nothing name input false old result new p = (λ path. ap (λ (n : List Event). about path n) p.1, ap output p.1)
+asked-nothing name input true old (Ok it) new (inl p) = absurd p
+asked-nothing name input true old (Err ending) new (inl p) = absurd p
+asked-nothing name input true old result new (inr p) =
+    nothing-joined old p.between new (full-nothing name p.given old p.between p.done) (seen-nothing name input p.given p.between result new p.after)
+
+-- who is asked, and answers, has changed no file, and nothing is printed on standard output
+asks-nothing : (is_typed : Bool) (replaced : Option (List ℕ)) (input : Reading) (old : List Event) (result : Result (Unit {0}) Ending) (new : List Event) → AsksFirst is_typed replaced input old result new → DoesNothing old new
+asks-nothing false replaced input old result new p = (λ path. ap (λ (n : List Event). about path n) p.1, ap output p.1)
+asks-nothing true None input old result new p = (λ path. ap (λ (n : List Event). about path n) p.1, ap output p.1)
+asks-nothing true (Some name) input old (Ok it) new (inl p) = absurd p
+asks-nothing true (Some name) input old (Err ending) new (inl p) = absurd p
+asks-nothing true (Some name) input old result new (inr p) =
+    nothing-joined old p.between new (λ path. ap (λ (n : List Event). about path n) p.done, ap output p.done) (asked-nothing name input p.given p.between result new p.after)
+
+-- ## The meaning of a status
+
+-- an ending means that a command is done, and that no print failed; or that things are left so, or that a print failed
+pub record Weighs (leaves : List Event → List Event → Type 0) (done : Bool → List Event → List Event → Type 0) (ends : Result (Unit {0}) Ending → List Event → List Event → Type 0) : Type 0 where
+  pub well : (it : Unit {0}) (old new : List Event) → ends (Ok it) old new → done true old new × (failed_prints (output new) ≡ failed_prints (output old))
+  pub ill : (ending : Ending) (old new : List Event) → ends (Err ending) old new → leaves old new ⊎ (failed_prints (output new) ≡ suc (failed_prints (output old)))
+
+module _ (tries leaves : List Event → List Event → Type 0) (done : Bool → List Event → List Event → Type 0) (ends : Result (Unit {0}) Ending → List Event → List Event → Type 0) (weighs : Weighs leaves done ends)
+    (idle : (old new : List Event) → DoesNothing old new → tries old new) (none : (old new : List Event) → DoesNothing old new → leaves old new)
+  where
+    zero-of : (work : Result (Unit {0}) Ending) (old new : List Event) → ends work old new → IsDone work → done true old new
+    zero-of (Ok it) old new e ended = (weighs.well it old new e).0
+    zero-of (Err ending) old new e ended = absurd ended
+
+    unless-failed : (notes : Option ImageNotes) (work : Result (Unit {0}) Ending) (old mid after new : List Event) (status : ℕ) → leaves old mid ⊎ (failed_prints (output mid) ≡ suc (failed_prints (output old)))
+        → output after ≡ output mid → EndsSo false notes work after new status → failed_prints (output new) ≡ failed_prints (output old) → leaves old mid
+    unless-failed notes work old mid after new status (inl s) told e silent = s
+    unless-failed notes work old mid after new status (inr more) told e silent = absurd (omega (arith, more, ap failed_prints told, grows notes work after new status e, silent))
+
+    other-of : (notes : Option ImageNotes) (work : Result (Unit {0}) Ending) (old mid after new : List Event) (status : ℕ) → ends work old mid → output after ≡ output mid → EndsSo false notes work after new status → status ≢ 0
+        → failed_prints (output new) ≡ failed_prints (output old) → leaves old mid
+    other-of notes (Ok it) old mid after new status s told e other silent = absurd (omega (arith, (weighs.well it old mid s).1, ap failed_prints told, done-fails notes it after new status e other, silent))
+    other-of notes (Err ending) old mid after new status s told e other silent = unless-failed notes (Err ending) old mid after new status (weighs.ill ending old mid s) told e silent
+
+    -- after tries a command ended
+    pub ended-means : (notes : Option ImageNotes) (work : Result (Unit {0}) Ending) (old start mid between new : List Event) (status : ℕ) → tries old start → ends work start mid → DoesNothing mid between
+        → EndsSo false notes work between new status → MeansSo tries leaves done status old new
+    ended-means notes work old start mid between new status waited s told e = record {
+      start = start;
+      waited = waited;
+      mid = mid;
+      after = λ path. ends-so false notes work between new status e path ∙ told.0 path;
+      zero = λ zero. zero-of work start mid s (zero-done notes work between new status e zero);
+      other = λ other silent. other-of notes work start mid between new status s told.1 e other silent;
+    }
+
+    -- it was refused before it began
+    pub refused-means : (notes : Option ImageNotes) (ending : Ending) (old between new : List Event) (status : ℕ) → DoesNothing old between → EndsSo false notes (Err ending) between new status → MeansSo tries leaves done status old new
+    refused-means notes ending old between new status nothing e = record {
+      start = old;
+      waited = idle old old (λ path. refl, refl);
+      mid = between;
+      after = ends-so false notes (Err ending) between new status e;
+      zero = λ zero. absurd (zero-done notes (Err ending) between new status e zero);
+      other = λ other silent. none old between nothing;
+    }
+
+    -- what each exit status means of a task, unless memory is wanted for its notes
+    pub task-so : (it : Task) (is_typed : Bool) (input : Reading) → gives_data it ≡ false
+        → ((notes : Option ImageNotes) (old : List Event) (work : Result (Unit {0}) Ending) (between new : List Event) (status : ℕ) → DoesTask it is_typed input old work between → EndsSo false notes work between new status
+        → MeansSo tries leaves done status old new)
+        → (old new : List Event) (status : ℕ) → RunsTask it is_typed input old new status → MeansSo tries leaves done status old new
+    task-so it is_typed input lines means old new status (inl r) = means r.notes old r.work r.between new status r.does (subst (λ (b : Bool). EndsSo b r.notes r.work r.between new status) lines r.ends)
+    task-so it is_typed input lines means old new status (inr e) = refused-means None (Fault Memory) old old new status (λ path. refl, refl) (subst (λ (b : Bool). EndsSo b None (Err (Fault Memory)) old new status) lines e)
+
+    module _ (command : List Event → Result (Unit {0}) Ending → List Event → Type 0) (gives : (old : List Event) (result : Result (Unit {0}) Ending) (new : List Event) → command old result new → ends result old new)
+        (busy : (begun : List (List Event)) (old mid new : List Event) → DoesNothing old mid → AreBusy command begun mid new → tries old new) (seconds : ℕ) (name : List ℕ)
+      where
+        pub within-means : (notes : Option ImageNotes) (work : Result (Unit {0}) Ending) (old begun between new : List Event) (status : ℕ) → DoesNothing old begun → Within seconds name command begun work between
+            → EndsSo false notes work between new status → MeansSo tries leaves done status old new
+        within-means notes work old begun between new status nothing w e =
+            ended-means notes work old w.between w.after between new status (busy w.tries old begun w.between nothing w.busy) (gives w.between work w.after w.last) (busy-told name work w.after between w.told) e
+
+        -- a person may be asked before
+        pub asked-means : (is_typed : Bool) (replaced : Option (List ℕ)) (input : Reading) (notes : Option ImageNotes) (old : List Event) (work : Result (Unit {0}) Ending) (between new : List Event) (status : ℕ)
+            → Then (AsksFirst is_typed replaced input) (λ it. Within seconds name command) old work between → EndsSo false notes work between new status → MeansSo tries leaves done status old new
+        asked-means is_typed replaced input notes old (Ok it) between new status (inl p) e = absurd p
+        asked-means is_typed replaced input notes old (Err ending) between new status (inl p) e = refused-means notes ending old between new status (asks-nothing is_typed replaced input old (Err ending) between p) e
+        asked-means is_typed replaced input notes old work between new status (inr p) e =
+            within-means notes work old p.between between new status (asks-nothing is_typed replaced input old (Ok p.given) p.between p.done) p.after e
+
 -- ## A change
 
 -- whether its line was printed is known
@@ -206,67 +315,52 @@ unchanged old new is start = subst (λ (n : List Step). IsAsItWas (replay start 
 all-stay : (old new : List Event) → DoesNothing old new → AllStay old new
 all-stay old new none = record { files = λ path. unchanged (about path old) (about path new) (none.0 path); prints = none.1 }
 
-module _ (form : ImageForm) (done : Bool → List Event → List Event → Type 0) (reports : Reports done) where
-  zero-of : (work : Result (Unit {0}) Ending) (old new : List Event) → EndsAs form done work old new → IsDone work → done true old new
-  zero-of (Ok it) old new e ended = e
-  zero-of (Err ending) old new e ended = absurd ended
+pub image-stays : (form : ImageForm) (old new : List Event) → DoesNothing old new → LeavesImage form old new
+image-stays form old new none = inl (all-stay old new none)
 
-  fails : (notes : Option ImageNotes) (work : Result (Unit {0}) Ending) (old mid after new : List Event) (status : ℕ) → done false old mid → output after ≡ output mid → EndsSo false notes work after new status
-      → failed_prints (output new) ≡ failed_prints (output old) → ⊥
-  fails notes work old mid after new status s told e silent = omega (arith, reports.unprinted old mid s, ap failed_prints told, grows notes work after new status e, silent)
+pub change-ill : (form : ImageForm) (done : Bool → List Event → List Event → Type 0) → Reports done → (ending : Ending) (old new : List Event) → EndsAs form done (Err ending) old new
+    → LeavesImage form old new ⊎ (failed_prints (output new) ≡ suc (failed_prints (output old)))
+change-ill form done reports Unreported old new s = inr (reports.unprinted old new s)
+change-ill form done reports NoReader old new s = inr (reports.unprinted old new s)
+change-ill form done reports (NotWritten it unwritten.AsItWas) old new s = inl (inl s)
+change-ill form done reports (NotWritten it unwritten.InPart) old new s = inl (inr s)
+change-ill form done reports (Line it) old new s = inl (image-stays form old new s)
+change-ill form done reports (Fault it) old new s = inl (image-stays form old new s)
+change-ill form done reports Failure old new s = inl (image-stays form old new s)
+change-ill form done reports (Busy it) old new s = inl (image-stays form old new s)
+change-ill form done reports Misuse old new s = inl (image-stays form old new s)
+change-ill form done reports FullOutput old new s = absurd s
 
-  other-of : (notes : Option ImageNotes) (work : Result (Unit {0}) Ending) (old mid after new : List Event) (status : ℕ) → EndsAs form done work old mid → output after ≡ output mid → EndsSo false notes work after new status → status ≢ 0
-      → failed_prints (output new) ≡ failed_prints (output old) → AllStay old mid ⊎ MayHoldAPart form old mid
-  other-of notes (Ok it) old mid after new status s told e other silent = absurd (omega (arith, reports.well old mid s, ap failed_prints told, done-fails notes it after new status e other, silent))
-  other-of notes (Err Unreported) old mid after new status s told e other silent = absurd (fails notes (Err Unreported) old mid after new status s told e silent)
-  other-of notes (Err NoReader) old mid after new status s told e other silent = absurd (fails notes (Err NoReader) old mid after new status s told e silent)
-  other-of notes (Err (NotWritten it unwritten.AsItWas)) old mid after new status s told e other silent = inl s
-  other-of notes (Err (NotWritten it unwritten.InPart)) old mid after new status s told e other silent = inr s
-  other-of notes (Err (Line it)) old mid after new status s told e other silent = inl (all-stay old mid s)
-  other-of notes (Err (Fault it)) old mid after new status s told e other silent = inl (all-stay old mid s)
-  other-of notes (Err Failure) old mid after new status s told e other silent = inl (all-stay old mid s)
-  other-of notes (Err (Busy it)) old mid after new status s told e other silent = inl (all-stay old mid s)
-  other-of notes (Err Misuse) old mid after new status s told e other silent = inl (all-stay old mid s)
-  other-of notes (Err FullOutput) old mid after new status s told e other silent = absurd s
+change-weighs : (form : ImageForm) (done : Bool → List Event → List Event → Type 0) → Reports done → Weighs (LeavesImage form) done (EndsAs form done)
+change-weighs form done reports = record { well = λ it old new s. (s, reports.well old new s); ill = change-ill form done reports }
 
-  module _ (command : List Event → Result (Unit {0}) Ending → List Event → Type 0) (ends : (old : List Event) (result : Result (Unit {0}) Ending) (new : List Event) → command old result new → EndsAs form done result old new)
-    where
-      busy-leaves : (tries : List (List Event)) (old new : List Event) → AreBusy command tries old new → ChangesNothing old new
-      busy-leaves [] old new is path = ap (λ (n : List Event). about path n) is
-      busy-leaves (before ∷ earlier) old new (busy, after, last, is) path =
-          ap (λ (n : List Event). about path n) is ∙ (ends before (Err (Busy Held)) after last).0 path ∙ busy-leaves earlier old before busy path
+-- each try that found the image busy did nothing
+pub busy-nothing : (command : List Event → Result (Unit {0}) Ending → List Event → Type 0) → ((old new : List Event) → command old (Err (Busy Held)) new → DoesNothing old new)
+    → (begun : List (List Event)) (old mid new : List Event) → DoesNothing old mid → AreBusy command begun mid new → DoesNothing old new
+busy-nothing command gives [] old mid new nothing is = (λ path. ap (λ (n : List Event). about path n) is ∙ nothing.0 path, ap output is ∙ nothing.1)
+busy-nothing command gives (before ∷ earlier) old mid new nothing (busy, after, last, is) =
+    let so = gives before after last in
+    let first = busy-nothing command gives earlier old mid before nothing busy in
+    (λ path. ap (λ (n : List Event). about path n) is ∙ so.0 path ∙ first.0 path, ap output is ∙ so.1 ∙ first.1)
 
-      within-means : (seconds : ℕ) (name : List ℕ) (notes : Option ImageNotes) (work : Result (Unit {0}) Ending) (old between new : List Event) (status : ℕ) → Within seconds name command old work between
-          → EndsSo false notes work between new status → Means form done status old new
-      within-means seconds name notes work old between new status w e =
-          let s = ends w.between work w.after w.last in
-          let told = busy-told name work w.after between w.told in
-          record {
-            start = w.between;
-            waited = busy-leaves w.tries old w.between w.busy;
-            mid = w.after;
-            after = λ path. ends-so false notes work between new status e path ∙ told.0 path;
-            zero = λ zero. zero-of work w.between w.after s (zero-done notes work between new status e zero);
-            other = λ other silent. other-of notes work w.between w.after between new status s told.1 e other silent;
-          }
+module _ (form : ImageForm) (done : Bool → List Event → List Event → Type 0) (reports : Reports done) (command : List Event → Result (Unit {0}) Ending → List Event → Type 0)
+    (ends : (old : List Event) (result : Result (Unit {0}) Ending) (new : List Event) → command old result new → EndsAs form done result old new) (seconds : ℕ) (name : List ℕ) (it : Task) (is_typed : Bool) (input : Reading)
+    (lines : gives_data it ≡ false)
+  where
+    -- what each exit status means of a task that does this command
+    pub task-means : ((old : List Event) (work : Result (Unit {0}) Ending) (new : List Event) → DoesTask it is_typed input old work new → Within seconds name command old work new)
+        → (old new : List Event) (status : ℕ) → RunsTask it is_typed input old new status → Means form done status old new
+    task-means does = task-so DoesNothing (LeavesImage form) done (EndsAs form done) (change-weighs form done reports) (λ old new none. none) (image-stays form) it is_typed input lines
+        (λ notes old work between new status p e. within-means DoesNothing (LeavesImage form) done (EndsAs form done) (change-weighs form done reports) (λ old new none. none) (image-stays form) command ends
+        (busy-nothing command (λ old new p. ends old (Err (Busy Held)) new p)) seconds name notes work old old between new status (λ path. refl, refl) (does old work between p) e)
 
-      -- memory is wanted for the notes, before the command begins
-      wants-means : (old new : List Event) (status : ℕ) → EndsSo false None (Err (Fault Memory)) old new status → Means form done status old new
-      wants-means old new status e = record {
-        start = old;
-        waited = λ path. refl;
-        mid = old;
-        after = ends-so false None (Err (Fault Memory)) old new status e;
-        zero = λ zero. absurd (zero-done None (Err (Fault Memory)) old new status e zero);
-        other = λ other silent. inl (all-stay old old (λ path. refl, refl));
-      }
-
-      -- what each exit status means of a task that does this command
-      pub task-means : (seconds : ℕ) (name : List ℕ) (it : Task) (is_typed : Bool) (input : Reading) → gives_data it ≡ false → ((old : List Event) (work : Result (Unit {0}) Ending) (new : List Event) → DoesTask it is_typed input old work new → Within seconds name command old work new)
-          → (old new : List Event) (status : ℕ) → RunsTask it is_typed input old new status → Means form done status old new
-      task-means seconds name it is_typed input lines does old new status (inl r) =
-          within-means seconds name r.notes r.work old r.between new status (does old r.work r.between r.does) (subst (λ (b : Bool). EndsSo b r.notes r.work r.between new status) lines r.ends)
-      task-means seconds name it is_typed input lines does old new status (inr e) = wants-means old new status (subst (λ (b : Bool). EndsSo b None (Err (Fault Memory)) old new status) lines e)
+    -- of one before which a person may be asked
+    pub asked-task-means : (replaced : Option (List ℕ))
+        → ((old : List Event) (work : Result (Unit {0}) Ending) (new : List Event) → DoesTask it is_typed input old work new → Then (AsksFirst is_typed replaced input) (λ it. Within seconds name command) old work new)
+        → (old new : List Event) (status : ℕ) → RunsTask it is_typed input old new status → Means form done status old new
+    asked-task-means replaced does = task-so DoesNothing (LeavesImage form) done (EndsAs form done) (change-weighs form done reports) (λ old new none. none) (image-stays form) it is_typed input lines
+        (λ notes old work between new status p e. asked-means DoesNothing (LeavesImage form) done (EndsAs form done) (change-weighs form done reports) (λ old new none. none) (image-stays form) command ends
+        (busy-nothing command (λ old new p. ends old (Err (Busy Held)) new p)) seconds name is_typed replaced input notes old work between new status (does old work between p) e)
 
 -- ## The commands
 
@@ -290,3 +384,15 @@ rename-reports wanted other form = record { well = λ old new s. ap failed_print
 
 pub delete-reports : (form : DeleteForm) → Reports (HasDeleted form)
 delete-reports form = record { well = λ old new s. ap failed_prints s.prints; unprinted = λ old new s. ap failed_prints s.prints }
+
+pub patch-reports : (word : WordPatch) (form : ImageForm) → Reports (HasPatched word form)
+patch-reports word form = record { well = λ old new s. ap failed_prints s.prints; unprinted = λ old new s. ap failed_prints s.prints }
+
+pub empty-reports : (form : ImageForm) → Reports (HasEmptied form)
+empty-reports form = record { well = λ old new s. ap failed_prints s.prints; unprinted = λ old new s. ap failed_prints s.prints }
+
+pub assemble-reports : (form : AssembleForm) (named : ImageForm) (name : List ℕ) → Reports (HasAssembled form named name)
+assemble-reports form named name = record { well = λ old new s. ap failed_prints s.prints; unprinted = λ old new s. ap failed_prints s.prints }
+
+pub create-reports : (gives : Result (Vec ℕ) Ending → Type 0) (form : CreateForm) (blocks : ℕ) → Reports (HasCreated gives form blocks)
+create-reports gives form blocks = record { well = λ old new s. ap failed_prints s.prints; unprinted = λ old new s. ap failed_prints s.prints }

@@ -6,7 +6,13 @@ use Rattle.hosts.specs.Event.{Event, look_call}
 use Rattle.hosts.specs.Streams.{output, read}
 use Rattle.char_pack.specs.declared.forms.GetForm.TheVariants.{Text}
 use Rattle.char_pack.specs.declared.forms.PutForm.TheVariants.{Frames}
+use Rattle.bin_tape.specs.Pairs.{ArePairs, IsTapeOf}
+use Rattle.pal_asm.specs.Faults.{fault_of}
+use Rattle.pal_asm.specs.Words.{pairs_of}
 use Rattle.host_sources.specs.Answers as pal3
+use Rattle.host_sources.specs.Sources.{newest_first}
+use Rattle.pal8_asm.specs.Assembling.{IsAssembled}
+use Rattle.pal8_join.specs.Joins.{bytes_in}
 use Rattle.pal8_tape.specs.Answers as pal8
 use Rattle.archive_files.specs.Asking.{OfName}
 use Rattle.archive_files.specs.Getting.{Gets}
@@ -30,6 +36,17 @@ AreTextsOf image (name ∷ names) (text ∷ texts) = ((found : Vec ℕ) × Gets 
 abbrev pub IsTapeIn : Bool → AssembleForm → List (Bor (List ℕ)) → List ℕ → Type 0
 IsTapeIn true form sources tape = pal8.IsTape (options_of form) sources tape
 IsTapeIn false form sources tape = pal3.IsAssembled sources tape
+
+-- these are the words of sources with their cells, in that language
+abbrev pub AreWordsIn : Bool → AssembleForm → List (Bor (List ℕ)) → List (ℕ × ℕ) → Type 0
+AreWordsIn true form sources pairs = IsAssembled (pal8.result_of (options_of form) (bytes_in sources)) pairs
+AreWordsIn false form sources pairs = (fault_of (newest_first sources) ≡ None) × (pairs ≡ pairs_of (newest_first sources))
+
+-- Frames are a tape of the words of sources, if these are cells and words of the machine. So each cell has the word of the last pair there.
+pub record IsMapOf (form : AssembleForm) (sources : List (Bor (List ℕ))) (frames : List ℕ) : Type 0 where
+  pub pairs : List (ℕ × ℕ)
+  pub are : AreWordsIn form.is_pal8 form sources pairs
+  pub tape : ArePairs pairs → IsTapeOf frames pairs
 
 -- A tape is stored. The image file was read, and nothing else; the sources are files of its volume. It has its volume now with their tape under
 -- a name, and with each other file as it was. The line STORED was to be printed, and nothing else. Whether it was is `ok`.

@@ -1,5 +1,14 @@
-//! The numbers that definitions cite by name alone, as a law.
-ghost use Rattle.std.specs.Prelude.{◌≡◌};
+//! The numbers that definitions cite by name alone, as laws.
+ghost use Rattle.std.specs.Prelude.{◌≡◌, ◌&&◌, ◌+◌, ◌*◌, ◌/◌, ◌%◌, ◌==◌, ℕ, nat_le, nat_lt, min, true, false, if◌then◌else◌, List, take};
+ghost use Rattle.std.specs.Borrow.{Bor};
+ghost use Rattle.image_kind.specs.Directories.{byte_of, entry_words, is_sound, next_word};
+ghost use Rattle.image_kind.specs.Kinds.{are_blocks, is_disk_volume, is_form_at};
+ghost use Rattle.image_kind.specs.declared.directories.Blocks.{Blocks};
+ghost use Rattle.image_kind.specs.declared.kinds.Form.TheVariants.{Dectape as AsTape};
+ghost use Rattle.pal8_join.specs.Joins.{bytes_in};
+ghost use Rattle.pal8_places.specs.Places.{next_stay};
+ghost use Rattle.pal8_places.specs.declared.options.Options.{Options as Chosen};
+ghost use Rattle.pal8_tape.specs.Further.{ended_texts, faults_after, further_faults, is_passed};
 ghost use Rattle.word12.specs.declared.sizes.TheConstants.{BLOCK, CORE, FIELD, FIRST_FILE_BLOCK, MOST_BLOCKS, MOST_SOURCES, PAGE};
 ghost use Rattle.char_pack.specs.declared.packing.TheConstants.{BLOCK_FRAMES};
 ghost use Rattle.disk_layouts.specs.declared.sizes.TheConstants.{DISK, DISK_VOLUME, TAPE, TAPE_VOLUME};
@@ -27,4 +36,18 @@ pub fn known_numbers()
     ensures dates { (NO_DATE ≡ 0) × (FIRST_YEAR ≡ 1970) × (LEAST_LAST ≡ 1977) × (LAST_YEAR ≡ 9999) }
     ensures lines { (MOST_LINES ≡ 16) × (MOST_SHOWN ≡ 40) × (MOST_IMAGES ≡ 1000000) }
     ensures tries { TRIES ≡ 20 }
+{}
+
+/// Those that no other crate can name, by what the definitions that cite them come to. The last stay that is counted, and how many statements are
+/// made harmless at most. How large a volume is, where words lie, and how many blocks the volumes of disks and tapes have.
+pub fn inner_numbers()
+    ensures stays { (stay : ℕ) → next_stay stay ≡ (if nat_lt stay 4294967295 then stay + 1 else stay) }
+    ensures harmless { (options : Chosen) (sources : List (Bor (List ℕ))) (most : ℕ) → further_faults options sources most
+        ≡ take most (faults_after options (is_passed options (ended_texts (bytes_in sources))) sources 100 (ended_texts (bytes_in sources))) }
+    ensures sizes { (size : ℕ) → are_blocks size ≡ (size % 512 == 0 && (nat_le 4096 size && nat_le size 2096640)) }
+    ensures words { (bytes : List ℕ) (blocks : Blocks) (info n k : ℕ) → next_word bytes blocks info n k ≡ min (k + entry_words bytes blocks info n k) 0o400 }
+    ensures places { (blocks : Blocks) (n k : ℕ) → byte_of blocks n k
+        ≡ (if blocks.is_tape then blocks.start + 258 * (2 * n + k / 0o200) + 2 * (k % 0o200) else blocks.start + 512 * n + 2 * k) }
+    ensures disks { (bytes : List ℕ) (start : ℕ) → is_disk_volume bytes start ≡ is_sound bytes (record { is_tape = false; start = start; count = 3248 }) }
+    ensures tapes { (bytes : List ℕ) (start : ℕ) → is_form_at bytes AsTape start ≡ is_sound bytes (record { is_tape = true; start = start; count = 737 }) }
 {}
