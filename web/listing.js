@@ -17,6 +17,10 @@ export class Listing {
         this.cells = new Map();
         /** @type {Map<string, string>} */
         this.statements = new Map();
+        /** @type {Map<number, HTMLElement[]>} */
+        this.lines = new Map();
+        /** @type {Element[]} */
+        this.marked = [];
         /** @type {number | null} */
         this.at = null;
         this.start = this.keys = '';
@@ -40,11 +44,15 @@ export class Listing {
         let number = 0, word = 0, own = '';
         this.cells = new Map();
         this.statements = new Map();
+        this.lines = new Map();
+        this.marked = [];
         $('listing').replaceChildren(...lines.slice(0, MOST).map(it => {
             const cell = /^([0-7]{5})  [0-7]{4}/.exec(it)?.[1], isFurther = /^[0-7]{5}  [0-7]{4}@?$/.test(it.trimEnd());
             if (!isFurther) [number, word, own] = [number + 1, 0, it.slice(16)];
             const line = made('span', { class: 'l', 'data-line': String(number), 'data-word': String(word), 'data-cell': cell ?? null }, it);
             if (cell) this.#cell(cell, line, own, word++);
+            if (isFurther) this.lines.get(number)?.push(line);
+            else this.lines.set(number, [line]);
             return line;
         }), lines.slice(MOST).join(''));
         this.#doings('');
@@ -60,18 +68,20 @@ export class Listing {
 
     // Marks the words of the line that the cursor is in, and the one of its statement.
     #follow() {
-        const text = $('text'), before = text.value.slice(0, text.selectionStart).split('\n'), line = before.length, own = text.value.split('\n')[line - 1];
-        $('listing-help').textContent = helpOf(own);
-        const lines = /** @type {HTMLElement[]} */ (this.source.isOld ? [] : [...$('listing').querySelectorAll(`[data-line="${line}"]`)]);
+        const text = $('text').value, place = $('text').selectionStart, line = lineAt(text, place), begin = place ? text.lastIndexOf('\n', place - 1) + 1 : 0, end = text.indexOf('\n', place);
+        const own = text.slice(begin, end < 0 ? text.length : end), help = helpOf(own);
+        if ($('listing-help').textContent !== help) $('listing-help').textContent = help;
+        const lines = this.source.isOld ? [] : this.lines.get(line) ?? [];
         this.#mark(lines);
-        const all = statementsOf(own), column = before[line - 1].length;
+        const all = statementsOf(own), column = place - begin;
         if (all.length === lines.length && lines.length > 1) lines[all.filter(it => it.at <= column).length - 1]?.classList.add('own');
     }
 
-    /** @param {ArrayLike<Element> & Iterable<Element>} lines */
+    /** @param {Element[]} lines */
     #mark(lines) {
-        for (const it of $('listing').querySelectorAll('.at')) it.classList.remove('at', 'own');
+        for (const it of this.marked) it.classList.remove('at', 'own');
         for (const it of lines) it.classList.add('at');
+        this.marked = lines;
         bringIntoView($('listing'), lines[0]);
     }
 
@@ -89,7 +99,7 @@ export class Listing {
         const number = Number(line.dataset.line), place = this.source.placeOf(number);
         if (!place.isOpen) return tell('source-status', `That is line ${place.line} of the text ${place.name}.`);
         const all = statementsOf($('text').value.split('\n')[number - 1] ?? '');
-        const isEach = all.length > 1 && all.length === $('listing').querySelectorAll(`[data-line="${number}"]`).length;
+        const isEach = all.length > 1 && all.length === this.lines.get(number)?.length;
         const { at, text } = all[isEach ? Number(line.dataset.word) : -1] ?? { at: 0, text: '' };
         this.source.goTo(number, takesFocus, at + 1, text.length);
     }
@@ -205,6 +215,14 @@ export class Listing {
             await machine.runTo(Number.parseInt(this.start, 8), this.switches, linesOf(lines, this.keys), lines.length);
         });
     }
+}
+
+// The number of the line that a place of a text is in.
+/** @param {string} text @param {number} place */
+export function lineAt(text, place) {
+    let line = 1;
+    for (let at = text.indexOf('\n'); at >= 0 && at < place; at = text.indexOf('\n', at + 1)) line++;
+    return line;
 }
 
 // The statements of a line, and where each begins; a comment is none.

@@ -4,7 +4,7 @@ import { ask } from './ask.js';
 import { encoded, homeOf, isText, shownOf } from './encoding.js';
 import { bytesOf, textOf } from './program.js';
 import { Texts } from './texts.js';
-import { Listing } from './listing.js';
+import { Listing, lineAt } from './listing.js';
 import { Owner } from './owner.js';
 import { ownerOf } from './store.js';
 import { titleOf } from './volumes.js';
@@ -29,6 +29,7 @@ export class Source {
         /** @type {Map<number, string>} */
         this.faulty = new Map();
         this.numbered = '';
+        this.counted = { text: '', lines: 1 };
         this.here = 0;
         this.looking = 0;
         this.assembled = '';
@@ -265,9 +266,16 @@ export class Source {
         this.#edited();
     }
 
+    // How many lines the text has. It is counted once for each change.
+    get #lines() {
+        const text = $('text').value;
+        if (text !== this.counted.text) this.counted = { text, lines: lineAt(text, text.length) };
+        return this.counted.lines;
+    }
+
     // The numbers of the lines that are in sight, with a mark at those that have a fault. So a key costs the same in a text of any length.
     #number() {
-        const text = $('text'), height = parseFloat(getComputedStyle(text).lineHeight), lines = text.value.split('\n').length;
+        const text = $('text'), height = parseFloat(getComputedStyle(text).lineHeight), lines = this.#lines;
         const first = Math.max(1, Math.floor(text.scrollTop / height) - MARGIN), last = Math.min(lines, first + Math.ceil(text.clientHeight / height) + 2 * MARGIN);
         const marks = [...new Set([...this.faulty.keys(), this.here])].filter(it => it >= first && it <= last).sort((a, b) => a - b);
         const shown = `${first} ${last} ${marks.map(it => `${it} ${this.faulty.get(it)}`)}`;

@@ -22,7 +22,7 @@ function spliceOf(was, is) {
     let at = 0, end = 0;
     while (at < most && was[at] === is[at]) at++;
     while (end < most - at && was[was.length - 1 - end] === is[is.length - 1 - end]) end++;
-    return isSame(was, is) ? [] : [{ at, old: was.slice(at, was.length - end), fresh: is.slice(at, is.length - end) }];
+    return at === was.length && at === is.length ? [] : [{ at, old: was.slice(at, was.length - end), fresh: is.slice(at, is.length - end) }];
 }
 
 // The stretches of blocks in which two values differ, each as long as it can be, to keep few parts.
