@@ -103,10 +103,11 @@ async function begin() {
     }
     if (!canLive) hideUnable();
     const claims = new Claims();
-    for (const it of [...KINDS, 'history']) claims.claim(it);
+    for (const it of KINDS) claims.claim(it);
     const store = await Store.open(claims);
     const programs = new Programs(await load('pdp8.wasm'), store);
     const page = /** @type {Page} */ ({ store, claims, programs, undo: new Undo(store), sound: new Sound(store), tell: trouble });
+    await page.undo.restore();
     page.tabs = new Tabs(store);
     const isNew = isFirst(page);
     page.say = (text, isBad = false) => tell(STATUS[page.tabs.shown ?? PANES[0]], text, isBad);

@@ -9,12 +9,13 @@ const OWNERS = [[/^(text|source-name|tape)$|^(text|further|dialect|form|options|
 // The claim that stands for a note, null for none.
 /** @param {string} key */
 export function ownerOf(key) {
-    if (/^undo( |$)/.test(key)) return 'history';
+    const list = /^undo( t\w+)?(?= \d+$|$)/.exec(key)?.[0];
+    if (list !== undefined) return list;
     const volume = /^as ([^ /]+)/.exec(key)?.[1];
     return volume === undefined ? OWNERS.find(([pattern]) => pattern.test(key))?.[1] ?? null : `volume ${volume}`;
 }
 
-const isShared = (/** @type {string} */ key) => /^(kind|lenient) /.test(key) || ![null, 'history'].includes(ownerOf(key));
+const isShared = (/** @type {string} */ key) => /^(kind|lenient) /.test(key) || !/^undo\b|^$/.test(ownerOf(key) ?? '');
 // Whether a note is a user's own work.
 const isWork = (/** @type {string} */ key) => ['text', 'lines'].includes(key) || key.startsWith('text ');
 

@@ -1,11 +1,15 @@
 // What brings back what a change of a volume, of a text, of the script, of the paper or of the machine has taken away. Of a change of the machine it
 // keeps the whole of it before and after, of any other the bytes that differ. What is typed is one change until no key is struck for a while. The page
-// keeps all of it, and of what was typed and of all else as many changes.
+// keeps all of it, and of what was typed and of all else as many changes. Each tab has a list of its own, of what was done in it. That of a tab which
+// is closed goes to the next one that begins.
 import { bytesOf } from './program.js';
 import { laid, stepOf } from './steps.js';
+import { ownerOf } from './store.js';
 
 // How many changes there are of each, how many bytes they may have, how long no key is struck, and how long what is only added may be as one change.
 const MOST = 50, ROOM = 96 << 20, QUIET = 1000, LONGEST = 2000;
+// The name of this tab's list over a reload.
+const NAME = 'geivottu-undo';
 
 export class Undo extends EventTarget {
     /** @type {Step[]} */
@@ -15,7 +19,6 @@ export class Undo extends EventTarget {
     /** @type {Map<string, { words: string } & Partial<Change>>} */
     #open = new Map();
     #isOwn = false;
-    #last = 0;
     // What is typed, and the machine as it was before what is done to it now.
     /** @type {{ key: string, words: string, before: string, after: string, timer: number } | null} */
     #typed = null;
@@ -31,12 +34,39 @@ export class Undo extends EventTarget {
         this.store = store;
         store.addEventListener('change', ({ detail }) => this.#changed(detail));
         store.addEventListener('leave', () => this.#endOpen());
-        /** @type {{ past: number[], future: number[], last: number }} */
-        const { past, future, last } = store.notes.get('undo') ?? { past: [], future: [], last: 0 };
-        /** @param {number[]} ids */
-        const steps = ids => ids.map(it => store.notes.get(`undo ${it}`)).filter(it => it !== undefined);
-        [this.#past, this.#future, this.#last] = [steps(past), steps(future), last];
+        /** @type {string} */
+        this.list = session()?.getItem(NAME) ?? freshList();
     }
+
+    // Begins with this tab's list, and with those of tabs that are closed. No other tab writes a list then.
+    async restore() {
+        const { store } = this, { claims, notes } = store, lists = [...notes.keys()].filter(it => /^undo( t\w+)?$/.test(it));
+        await Promise.all([this.list, ...lists].map(it => claims.claim(it)));
+        if (!claims.has(this.list)) await claims.claim(this.list = freshList()); // a tab that was made of another one has its name
+        session()?.setItem(NAME, this.list);
+        const mine = lists.filter(it => claims.has(it));
+        mine.forEach(it => this.#take(it));
+        this.#trim();
+        if (mine.some(it => it !== this.list)) this.#keepList();
+        await store.settled();
+        for (const it of lists) if (it !== this.list) claims.leave(it);
+    }
+
+    // Takes a list, this tab's or one of a tab that is closed, among what this tab has, by the time of its changes.
+    /** @param {string} list */
+    #take(list) {
+        const { store } = this, { notes } = store, { past, future } = notes.get(list);
+        /** @param {number[]} ids @returns {Step[]} */
+        const steps = ids => ids.map(it => notes.get(`${list} ${it}`)).filter(it => it !== undefined), [done, undone] = [steps(past), steps(future)];
+        [this.#past, this.#future] = [merged(this.#past, done), merged(this.#future, undone)];
+        if (list === this.list) return;
+        for (const it of [...done, ...undone]) store.note(this.#noteOf(it), it);
+        for (const it of [...notes.keys()].filter(it => ownerOf(it) === list)) store.forget(it);
+    }
+
+    // The note that keeps a change.
+    /** @param {Step} step */
+    #noteOf({ id }) { return `${this.list} ${id}`; }
 
     // What was typed, and what a session or a load has changed so far, is a change, as the page is left.
     #endOpen() {
@@ -52,8 +82,8 @@ export class Undo extends EventTarget {
     // Has the page keep which steps there are, and no others.
     #keepList() {
         const { notes } = this.store, ids = [this.#past, this.#future].map(all => all.map(it => it.id));
-        for (const it of notes.get('undo')?.past.concat(notes.get('undo').future) ?? []) if (!ids.flat().includes(it)) this.store.forget(`undo ${it}`);
-        this.store.note('undo', { past: ids[0], future: ids[1], last: this.#last });
+        for (const it of notes.get(this.list)?.past.concat(notes.get(this.list).future) ?? []) if (!ids.flat().includes(it)) this.store.forget(`${this.list} ${it}`);
+        this.store.note(this.list, { past: ids[0], future: ids[1] });
         this.dispatchEvent(new Event('change'));
     }
 
@@ -79,7 +109,7 @@ export class Undo extends EventTarget {
         if (before === after && !step) return;
         const whole = { slot: /** @type {Slot} */ ('notes'), key: 'machine', words, isText: true, was: bytesOf(before), is: bytesOf(after), size: before.length + after.length };
         if (!step) this.#worked.step = this.#add(whole);
-        else this.store.note(`undo ${step.id}`, Object.assign(step, whole));
+        else this.store.note(this.#noteOf(step), Object.assign(step, whole));
     }
 
     // Takes what is typed into a text, by its key. It was this before, and is this after.
@@ -100,14 +130,14 @@ export class Undo extends EventTarget {
         const last = this.#past.at(-1), isFurther = !this.#future.length && last?.isTyped && last.key === step.key && last.size < LONGEST && isAddition(last) && isAddition(step);
         const before = isFurther ? laid(it.before, last, false) : null;
         if (!last || typeof before !== 'string') return void this.#add({ ...step, isTyped: true });
-        this.store.note(`undo ${last.id}`, Object.assign(last, stepOf('notes', it.key, before, it.after, it.words)));
+        this.store.note(this.#noteOf(last), Object.assign(last, stepOf('notes', it.key, before, it.after, it.words)));
     }
 
     // Has the changes of a text go by its new key.
     /** @param {string} old @param {string} key */
     rename(old, key) {
         this.endTyping();
-        for (const it of [...this.#past, ...this.#future].filter(it => it.key === old)) this.store.note(`undo ${it.id}`, Object.assign(it, { key }));
+        for (const it of [...this.#past, ...this.#future].filter(it => it.key === old)) this.store.note(this.#noteOf(it), Object.assign(it, { key }));
     }
 
     // How many changes can be undone.
@@ -171,15 +201,23 @@ export class Undo extends EventTarget {
     /** @param {Omit<Step, 'id'>} it */
     #add(it) {
         this.endTyping();
-        const step = { ...it, id: ++this.#last };
-        this.store.note(`undo ${step.id}`, step);
+        const ids = [...this.#past, ...this.#future].map(it => it.id), step = { ...it, id: Math.max(Date.now(), ...ids.map(it => it + 1)) };
+        this.store.note(this.#noteOf(step), step);
         this.#past.push(step);
         this.#future = [];
-        const size = () => this.#past.reduce((sum, it) => sum + it.size, 0), isSame = (/** @type {Step} */ it) => !it.isTyped === !step.isTyped;
-        if (this.#past.filter(isSame).length > MOST) this.#past.splice(this.#past.findIndex(isSame), 1);
-        while (this.#past.length > 1 && size() > ROOM) this.#past.shift();
+        this.#trim();
         this.#keepList();
         return step;
+    }
+
+    // Forgets the oldest changes where there are too many: of what was typed, and of all else.
+    #trim() {
+        const size = () => this.#past.reduce((sum, it) => sum + it.size, 0);
+        for (const isTyped of [true, false]) {
+            const all = this.#past.filter(it => !it.isTyped !== isTyped), old = all.slice(0, Math.max(0, all.length - MOST));
+            this.#past = this.#past.filter(it => !old.includes(it));
+        }
+        while (this.#past.length > 1 && size() > ROOM) this.#past.shift();
     }
 
     // Undoes a change, the newest where none is given, or does again what was undone. Gives the step, or null where the thing was changed by another tab
@@ -213,7 +251,7 @@ export class Undo extends EventTarget {
     async #bringMachine(step, isAgain) {
         const now = bytesOf(this.machine.get()), text = worded((isAgain ? step.is : step.was) ?? new Uint8Array(0));
         step[isAgain ? 'was' : 'is'] = now;
-        this.store.note(`undo ${step.id}`, step);
+        this.store.note(this.#noteOf(step), step);
         await this.machine.set(text);
     }
 }
@@ -224,3 +262,23 @@ function isAddition({ parts }) { return parts?.every(it => !it.old.length) ?? fa
 
 /** @param {Uint8Array} bytes */
 function worded(bytes) { return new TextDecoder().decode(bytes); }
+
+// The changes of two lists in the order of their times, each list's own as they are.
+/** @param {Step[]} a @param {Step[]} b */
+function merged(a, b) {
+    const all = [], [ours, theirs] = [[...a], [...b]];
+    while (ours.length && theirs.length) all.push(...(ours[0].id <= theirs[0].id ? ours : theirs).splice(0, 1));
+    return [...all, ...ours, ...theirs];
+}
+
+// What the browser keeps for a tab alone, null where it keeps nothing.
+function session() {
+    try {
+        return sessionStorage;
+    } catch {
+        return null;
+    }
+}
+
+// A name for a list that no other tab has.
+function freshList() { return `undo t${Date.now().toString(36)}${Math.random().toString(36).slice(2, 8)}`; }

@@ -88,6 +88,32 @@ await run('tabs', {
         await page.choose('#texts', 'MINE');
         same('*200\n$\n', await value(page, 'text'), 'the text of the first');
     },
+    'each tab undoes what was done in it, and what was done in a closed one comes to the next': async (page, url) => {
+        const first = await two(page, url), added = (it, name) => it.look(`(async () => { await geivottu.files.add('${name}', await geivottu.files.blank('20'), ''); })()`);
+        const listed = it => it.look(`[document.getElementById('undo').title, geivottu.undo.count].join()`), images = it => it.look('geivottu.files.images.join()');
+        await added(first, 'ONE');
+        await added(page, 'TWO');
+        same('the new volume ONE,1', await listed(first), 'what the first can undo');
+        same('the new volume TWO,1', await listed(page), 'what the second can undo');
+        await page.look('geivottu.store.settled()');
+        await page.go(`${url}?third`);
+        same('the new volume TWO,1', await listed(page), 'what the second can undo after a reload');
+        await page.click('#undo');
+        await page.until(`!geivottu.store.files.has('TWO')`);
+        await first.until(`geivottu.files.images.join() === 'ONE'`);
+        await added(page, 'THREE');
+        await first.look('geivottu.store.settled()');
+        await first.end();
+        same('the new volume THREE,1', await listed(page), 'what the second can undo after the first is closed');
+        await page.go(`${url}?fourth`);
+        same('the new volume THREE,2', await listed(page), 'what the second can undo then');
+        for (const [it, left] of [['THREE', 'ONE'], ['ONE', '']]) {
+            await page.click('#undo');
+            await page.until(`!geivottu.store.files.has('${it}')`);
+            same(left, await images(page), 'the volumes');
+        }
+        same('0', await page.look(`String([...geivottu.store.notes.keys()].filter(it => it.startsWith('undo') && !it.startsWith(geivottu.undo.list)).length)`), 'lists of other tabs');
+    },
     'each tab has its own pane and volume after a reload': async (page, url) => {
         const first = await further(page, url);
         await pane(first, 'script');
