@@ -82,6 +82,12 @@ export class Living {
         return Uint8Array.from(fresh, it => Number.parseInt(it, 8) & 0o177);
     }
 
+    // The words of core, null where the run ends before.
+    async core() {
+        const replies = await this.ask(...Array.from({ length: CORE }, (_, cell) => `EXAMINE ${octal(cell, 5)}`));
+        return replies?.map(it => Number.parseInt(it.slice(6), 8)) ?? null;
+    }
+
     // Has the journal begin with what core and registers hold now, so it stays short.
     async shorten() {
         const { journal } = this, lines = await this.lines, asked = ['REGISTERS', ...Array.from({ length: CORE }, (_, cell) => `EXAMINE ${octal(cell, 5)}`)];

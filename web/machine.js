@@ -6,6 +6,7 @@ import { canLive, textOf } from './program.js';
 import { STATES, helpAt, helpOf } from './help.js';
 import { Accesses, after, before } from './access.js';
 import { Code } from './code.js';
+import { Foreseen } from './foreseen.js';
 import { rateOf, uneven } from './pace.js';
 import { Owner } from './owner.js';
 import { Panel } from './panel.js';
@@ -59,10 +60,11 @@ export class Machine {
         $('power').addEventListener('click', () => this.renew());
         $('step-over').addEventListener('click', () => this.stepOver());
         this.watch = new Watch((...lines) => this.#ask(...lines));
+        this.foreseen = new Foreseen(page, this);
         rove($('code'));
         helpAt($('code'), $('code-help'), it => helpOf(it.closest('.l')?.textContent ?? ''));
         $('core-tape').addEventListener('change', () => loadChosen(page, $('core-tape')));
-        $('core-from').addEventListener('change', () => isOctal($('core-from').value, 5) ? this.#core() : tell('machine-status', 'Core is shown from an address of at most five octal digits.', true));
+        $('core-from').addEventListener('change', () => isOctal($('core-from').value, 5) ? (tell('machine-status', ''), this.#core()) : tell('machine-status', 'Core is shown from an address of at most five octal digits.', true));
         takeKeys(key => this.keys.push(key));
         for (const it of ['volume', 'tape']) page.store.addEventListener(it, () => listTapes(page));
         $('machine').addEventListener('shown', () => this.#refresh());
@@ -382,7 +384,7 @@ export class Machine {
         this.isGoing = false;
         this.page.store.note('going', false);
         this.panel.runs(false);
-        tell('machine-status', isStopped ? `stopped by the key: ${stepsIn(this.reply)}` : stepsIn(this.reply), why === 'UNASSIGNED');
+        tell('machine-status', isStopped ? `stopped by the key: ${stepsIn(this.reply).replace(/^1 step: (.*) \(.*\)$/, '$1')}` : stepsIn(this.reply), why === 'UNASSIGNED');
         $('rate').textContent = '';
         await this.#stopped();
         return !isStopped && why !== 'ENDED';
@@ -465,7 +467,7 @@ export class Machine {
         this.#count(this.steps);
         if (this.isGoing && performance.now() - this.listedAt < 100) return;
         this.listedAt = performance.now();
-        $('registers').replaceChildren(...Object.entries(this.registers ?? {}).filter(([name]) => name !== 'run').map(([name, value]) => made('div', {}, made('dt', { title: STATES[name] ?? null }, name), made('dd', {}, String(value)))));
+        $('registers').replaceChildren(...Object.entries(this.#lit ?? {}).filter(([name]) => name !== 'run').map(([name, value]) => made('div', {}, made('dt', { title: STATES[name] ?? null }, name), made('dd', {}, String(value)))));
         this.code.mark(this.#lit, this.isGoing);
     }
 

@@ -41,6 +41,20 @@ export function linesOf(lines, keys) {
     return given;
 }
 
+// A source of the words of core, for a tape of them: those that are not zero.
+/** @param {ArrayLike<number>} core */
+export function sourceOf(core) {
+    let text = '', last = -2;
+    for (let cell = 0; cell < core.length; cell++) {
+        if (core[cell] === 0) continue;
+        if (cell >> 12 !== last >> 12) text += `FIELD ${cell >> 12}\n`;
+        if (cell !== last + 1 || (cell & 0o7777) === 0) text += `*${octal(cell & 0o7777, 4)}\n`;
+        text += `${octal(core[cell], 4)}\n`;
+        last = cell;
+    }
+    return `${text}$\n`;
+}
+
 // The lines that lay the words of a tape over core.
 /** @param {Page} page @param {Uint8Array} tape */
 export async function depositsOf(page, tape) {
@@ -61,8 +75,8 @@ export function settingOf(registers, wordAt) {
 }
 
 // The words that give a trace or a profile the switches, steps and keys that were typed for it. Switches may stand for those that weren't typed.
-/** @param {'shown' | 'doing'} where @param {string} [switches] */
+/** @param {'shown' | 'doing' | 'core'} where @param {string} [switches] */
 export function doingOf(where, switches = '') {
-    const set = $(`${where}-switches`).value.trim() || switches, steps = $(`${where}-steps`).value.trim(), keys = $(`${where}-keys`).value.replaceAll('\\r', '\r');
-    return [...(set ? ['--switches', set] : []), ...(steps ? ['--steps', steps] : []), ...(keys ? [`--keys=${keys}`] : [])];
+    const set = where === 'core' ? switches : $(`${where}-switches`).value.trim() || switches, steps = $(`${where}-steps`).value.trim(), keys = $(`${where}-keys`).value.replaceAll('\\r', '\r');
+    return [...(set ? [`--switches=${set}`] : []), ...(steps ? [`--steps=${steps}`] : []), ...(keys ? [`--keys=${keys}`] : [])];
 }

@@ -318,6 +318,24 @@ await run('offers', {
             await page.click(`#shown-${it}`);
             await page.until(`document.getElementById('shown').textContent === ${JSON.stringify(native([it, 't.bn', ...how]).toString())}`);
         }
+        await pane(page, 'machine');
+        await page.click('#power');
+        await isTold(page, 'machine-status', 'a new machine');
+        await pane(page, 'source');
+        await page.click('#to-core');
+        await isTold(page, 'machine-status', 'words are in core');
+        await page.fill('#switches-shown', '1234');
+        await page.fill('#core-keys', 'XY');
+        await page.fill('#core-steps', '40');
+        for (const it of ['trace', 'profile']) {
+            await page.click(`#core-${it}`);
+            await page.until(`document.getElementById('core-does').textContent === ${JSON.stringify(native([it, 't.bn', '--start', '00200', ...how]).toString())}`);
+        }
+        same('A', await page.look(`document.querySelector('#core-does [data-own]').dataset.own`), 'the name of a cell');
+        await page.click('#power');
+        await page.click('#core-trace');
+        await isTold(page, 'machine-status', 'Nothing is in core');
+        await pane(page, 'files');
         await page.fill('#shown-steps', '0');
         await page.click('#shown-trace');
         await isTold(page, 'files-status', 'The steps: 0 is not 1 or more');

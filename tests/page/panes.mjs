@@ -4,7 +4,7 @@ import { copyFileSync, linkSync, readFileSync, rmSync, truncateSync, writeFileSy
 import { dirname, join } from 'node:path';
 import { fileURLToPath } from 'node:url';
 import { pause } from './browser.mjs';
-import { file, holds, isTold, native, note, pane, runInTurn, same, setSource } from './tools.mjs';
+import { file, holds, isTold, native, note, pane, removeVolume, runInTurn, same, setSource } from './tools.mjs';
 
 const top = dirname(dirname(dirname(fileURLToPath(import.meta.url))));
 /** @type {import('./tools.mjs').Turn[]} */
@@ -100,7 +100,7 @@ test('an image is taken by choice and by a drop', async page => {
     await page.drop('#drop', file('W.os8'));
     await page.until(`document.getElementById('volume').value === 'W.os8'`);
     await page.until(`document.querySelectorAll('#directory tbody tr').length === 1`);
-    await page.click('#drop-image');
+    await removeVolume(page);
     await page.until(`![...document.getElementById('volume').options].some(it => it.value === 'W.os8')`);
 });
 
@@ -118,7 +118,7 @@ test('a fault of a directory is told, and marked in the picture', async page => 
     await page.give('#image', file('bad.os8'));
     await isTold(page, 'files-status', nativeText(['check', 'bad.os8']).trim());
     holds((await page.look(`document.getElementById('blocks').getAttribute('aria-label')`)).includes('refused: ? DIRECTORY 1 BAD LINK'), 'the label');
-    await page.click('#drop-image');
+    await removeVolume(page);
     await page.until(`document.getElementById('volume').value !== 'bad.os8'`);
 });
 
@@ -145,7 +145,7 @@ test('the largest volume is shown in time', async page => {
     const took = await page.look(`(async () => { const from = performance.now(); await geivottu.files.open('LARGE'); return performance.now() - from; })()`);
     note(`${Math.round(took)} ms`);
     holds(took < 3000, `it took ${took} ms`);
-    await page.click('#drop-image');
+    await removeVolume(page);
     await page.until(`document.getElementById('volume').value !== 'LARGE'`);
     await page.choose('#volume', 'DISK');
 });
@@ -466,12 +466,14 @@ test('each control has a name for who can\'t see it', async page => {
     }
 });
 
-test('a narrow window needs no sideways scrolling', async page => {
-    await page.size(360, 740);
-    for (const name of ['files', 'source', 'machine', 'teletype', 'script']) {
-        await pane(page, name);
-        const wide = await page.look('document.documentElement.scrollWidth');
-        holds(wide <= 360, `${name} is ${wide} wide`);
+test('a window of any width needs no sideways scrolling', async page => {
+    for (const width of [320, 360, 768, 1024, 1190, 1200, 1280]) {
+        await page.size(width, 740);
+        for (const name of ['files', 'source', 'machine', 'teletype', 'script']) {
+            await pane(page, name);
+            const further = await page.look('document.documentElement.scrollWidth - document.documentElement.clientWidth');
+            holds(further <= 0, `${name} is ${further} pixels wider than a window of ${width}`);
+        }
     }
     await page.size(1200, 900);
 });

@@ -31,6 +31,7 @@ await run('shelf', {
             same('', await other.look(OUTSIDE), `what is not in sight, ${width} by ${height}`);
             const { panel, console } = await other.look(`Object.fromEntries([['panel', '#panel .board'], ['console', '#console']].map(([name, it]) => [name, document.querySelector(it).getBoundingClientRect().toJSON()]))`);
             if (width > 1000) holds(console.left >= panel.right && console.top < panel.bottom, 'the Teletype is not beside the panel');
+            if (width > 1000) same(1, await other.look(`new Set([...document.querySelectorAll('#panel .small .lamps')].map(it => Math.round(it.getBoundingClientRect().top))).size`), 'the rows of the small lamps');
             await other.look('scrollTo(0, document.documentElement.scrollHeight)');
             same('', await other.look(OUTSIDE.replace(", '#console', '#console-line'", '')), `which keys are not in sight at the end of the pane, ${width} by ${height}`);
             await other.end();
@@ -38,6 +39,7 @@ await run('shelf', {
         await page.go(`${url}?first`);
         await isTold(page, 'code', 'A GAME FOR THE TELETYPE');
         same('00200', await page.look(`document.querySelector('#code .at').dataset.cell`), 'the line that is marked');
+        same('0200', await page.look(`[...document.querySelectorAll('#registers dt')].find(it => it.textContent === 'pc').nextSibling.textContent`), 'PC beside its lamps');
         await page.click('#key-start');
         await isTold(page, 'console', 'WHAT IS YOUR NAME?');
         await page.keys('ada\n');
@@ -104,6 +106,7 @@ await run('shelf', {
         await page.until(`[...document.querySelectorAll('[data-row="ac"] .lamp')].map(it => it.classList.contains('on') ? 1 : 0).join('') !== '${first}'`);
         await page.click('#key-stop');
         await isTold(page, 'machine-status', 'stopped by the key');
+        holds(/^stopped by the key: the next instruction is at [0-7]{5}$/.test(await page.text('machine-status')), await page.text('machine-status'));
         await page.until(`!document.querySelector('[data-row="run"] .lamp').classList.contains('on')`);
     },
     'the disk of the shelf has the programs and their tapes': async (page, url) => {

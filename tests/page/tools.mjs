@@ -112,6 +112,13 @@ export async function answer(page, words, tabs) {
     await page.key(tabs === undefined ? 'Escape' : 'Enter');
 }
 
+// Removes the volume that is open.
+/** @param {Page} page */
+export async function removeVolume(page) {
+    await page.click('#drop-image');
+    await answer(page, 'Undo brings it back', 1);
+}
+
 // Marks a test that wants a browser of its own, since a further user's store has other limits.
 /** @param {Test} body @returns {Test} */
 export const alone = body => Object.assign(body, { isAlone: true });
