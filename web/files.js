@@ -19,7 +19,7 @@ import { blocksOf, fileOf, isVolume, kindOf, plainName, targetOf, titleOf, volum
 /** @typedef {{ name: string, first: number, length: number, isByBlocks: boolean, date?: string, kind?: string }} Entry */
 
 // What stands in place of a date where each file gets the day on which it was last changed.
-const OWN_DATE = /^their own$/i;
+const OWN_DATE = /^their own$/i, DATES = /^(\d{4}-\d\d-\d\d|their own|none)$/i;
 // How long a volume is left alone before its files' dates and kinds are asked for, in milliseconds.
 const QUIET = 60;
 
@@ -51,7 +51,7 @@ export class Files {
         $('create-disk').addEventListener('click', () => this.create('disk'));
         $('put-date').addEventListener('click', () => this.#askDate());
         this.#tellDate();
-        $('image').addEventListener('change', () => this.#opened($('image')));
+        $('image').addEventListener('change', () => this.drops.chosen($('image'), 'files'));
         $('create').addEventListener('click', () => this.create());
         $('volume').addEventListener('change', () => this.open($('volume').value));
         $('take-image').addEventListener('click', () => takeHome(this.file, page.store.files.get(this.file)));
@@ -194,13 +194,6 @@ export class Files {
     /** @param {string} name */
     #mark(name) { return this.page.store.isUnkept(fileOf(name)) ? `${titleOf(name)}, not kept` : titleOf(name); }
 
-    /** @param {HTMLInputElement} input */
-    async #opened(input) {
-        const [file] = input.files ?? [];
-        input.value = '';
-        if (file) await this.take(file);
-    }
-
     // Takes a file of the host as an image into the page, of whatever kind. One that can't be an image of a volume is not kept.
     /** @param {File} file */
     async take(file) {
@@ -210,7 +203,8 @@ export class Files {
         if (name === null || !await this.#keep(name, bytes, asked.kind)) return;
         await this.open(volumesOf(name, asked.kind)[0]);
         if (asked.isMended) this.page.say(`${file.name} has faults, and is only looked at, as it is mended:\n${asked.said.replaceAll('the file', name)}`);
-        else if (plainName(file.name) !== file.name) this.page.say(`${file.name} is called ${name} here.`);
+        else if (name !== file.name) this.page.say(`${file.name} is called ${name} here, and is open.`);
+        else if ($('files').hidden) this.page.say(`${name} is open: the pane Files shows it.`);
     }
 
     // The name for a new volume: where there is one of that name the user is asked. Null where none is to be made.
@@ -231,7 +225,7 @@ export class Files {
         if (this.page.store.files.has(name)) {
             await this.page.claims.claim(`volume ${name}`);
             const busy = await this.#busy(name);
-            if (busy) return tell('files-status', `${name}: ${busy}`, true);
+            if (busy) return this.page.say(`${name}: ${busy}`, true);
         }
         this.shown.forget(name);
         if (kind !== '' || this.page.store.notes.has(`kind ${name}`)) this.page.store.note(`kind ${name}`, kind);
@@ -263,7 +257,7 @@ export class Files {
     async blank(blocks, kind = '') {
         const { programs, store } = this.page;
         store.remove('.new');
-        const { status, out, said } = await programs.ask(['create', '.new', kind === 'DECtape' ? '--dectape' : kind === 'disk' ? '--rk05' : blocks]), image = store.files.get('.new');
+        const { status, out, said } = await programs.ask(['create', '.new', ...(kind === 'DECtape' ? ['--dectape'] : kind === 'disk' ? ['--rk05'] : ['--', blocks])]), image = store.files.get('.new');
         store.remove('.new');
         this.created = textOf(out);
         if (status === 0) return image;
@@ -297,7 +291,7 @@ export class Files {
     async #remove() {
         const name = this.file, busy = await this.#busy(name);
         if (busy) return tell('files-status', busy, true);
-        if (!confirm(`Remove ${name} from the page? Undo brings it back.`)) return;
+        if (await ask(`Remove ${name} from the page? Undo brings it back.`, ['', 'Leave it'], ['remove', 'Remove it']) !== 'remove') return;
         this.page.undo.begin(name, `the removal of ${name}`);
         this.page.store.remove(name);
         this.page.undo.end(name);
@@ -383,7 +377,9 @@ export class Files {
     // Asks for the date of files that are put in.
     async #askDate() {
         const date = (await askFor('The date of files that are put in: as 1974-03-12, or their own, or none', this.#date || 'none', 'Date them so')).trim();
-        if (date !== '') this.page.store.note('put-date', date.toLowerCase() === 'none' ? '' : date);
+        if (date === '') return;
+        if (!DATES.test(date)) return tell('files-status', `A date is given as 1974-03-12, or as their own, or none: ${date} is none of these.`, true);
+        this.page.store.note('put-date', date.toLowerCase() === 'none' ? '' : date);
         this.#tellDate();
     }
 
@@ -407,7 +403,7 @@ export class Files {
     /** @param {import('./source.js').From} from @param {Uint8Array} bytes @returns {Promise<Answer>} */
     async putBack({ volume, name, was }, bytes) {
         const { programs, undo } = this.page, none = { status: 0, out: new Uint8Array(0) }, title = `${name} of ${titleOf(volume)}`;
-        if (!this.volumes.includes(volume)) return { ...none, status: 1, said: `The page has no volume ${titleOf(volume)} any more: Save the text takes it home.` };
+        if (!this.volumes.includes(volume)) return { ...none, status: 1, said: `The page has no volume ${titleOf(volume)} any more: Save the text saves it on your computer.` };
         const now = await programs.ask(['get', ...wordsOf(volume), name, '--text']), isSame = now.status === 0 && textOf(now.out) === textOf(was);
         if (!isSame && await ask(`${title} was changed since it was opened.`, ['', 'Leave it'], ['over', 'Write over it']) !== 'over') return { ...none, status: 1, said: `${title} was left as it is` };
         return this.use(fileOf(volume), () => undo.group(fileOf(volume), `saving ${name}`, () => programs.ask(['put', ...wordsOf(volume), '-', '--as', name, '--text'], bytes)));

@@ -4,8 +4,11 @@ import { $, follow, ids, keepInput, tell } from './dom.js';
 import { bytesOf, canLive, textOf } from './program.js';
 import { Owner } from './owner.js';
 import { titleOf, wordsOf } from './volumes.js';
+import { endOf } from './words.js';
 
 const FIRST = 'STORE HELLO.PA 4\n*200\n\tCLA IAC\n\tHLT\n$\nASSEMBLE HELLO.BN<HELLO.PA\nFINISH\nLOAD HELLO.BN\nFINISH\nRUN 00200 10\nREGISTERS\nDIRECT\n';
+// How many characters of the replies are kept over a reload.
+const MOST = 500000;
 
 export class Script {
     /** @param {Page} page */
@@ -15,8 +18,15 @@ export class Script {
         this.run = null;
         this.isBegun = false;
         this.volume = '';
+        // the words of what runs, and what was last said of how it ended
+        /** @type {string[] | null} */
+        this.ran = null;
+        /** @type {{ words: string, isBad: boolean } | null} */
+        this.told = null;
         /** @type {Uint8Array[] | null} */
         this.shown = null;
+        this.#restore();
+        page.store.addEventListener('leave', () => this.#keep());
         $('lines').value = FIRST;
         if (!page.store.notes.has('lines')) page.store.notes.set('lines', FIRST);
         $('lines').addEventListener('input', () => page.undo.type('lines', 'typing in the script', page.store.notes.get('lines'), $('lines').value));
@@ -29,6 +39,27 @@ export class Script {
         $('script-stop').addEventListener('click', () => this.run?.stop());
         $('session').addEventListener('click', () => this.#session());
         $('entry').addEventListener('submit', event => this.#enter(event));
+    }
+
+    // Shows the replies as they were when the page was left, which ended what ran then.
+    #restore() {
+        const { replies = '', ran = null, told = null } = this.page.store.notes.get('replies') ?? {};
+        $('replies').textContent = replies;
+        if (ran) this.#tell(`It ended as the page was left. ${ran.includes('--keep') ? 'The volume has what was stored.' : 'The volume is as it was before.'}`, true);
+        else if (told) this.#tell(told.words, told.isBad);
+    }
+
+    // Has the page keep the replies, and what runs.
+    #keep() {
+        const text = $('replies').textContent, replies = text.length > MOST ? text.slice(text.indexOf('\n', text.length - MOST) + 1) : text;
+        if (text || this.ran || this.page.store.notes.has('replies')) this.page.store.note('replies', { replies, ran: this.ran, told: this.told });
+    }
+
+    // Says how it ended, which is kept with the replies.
+    /** @param {string} words @param {boolean} isBad */
+    #tell(words, isBad) {
+        this.told = { words, isBad };
+        tell('script-status', words, isBad);
     }
 
     #words() {
@@ -67,9 +98,11 @@ export class Script {
     /** @param {string[]} words @param {boolean} [terminal] */
     async #begin(words, terminal = false) {
         this.isBegun = true;
+        this.ran = words;
         this.#buttons(false);
         $('replies').textContent = '';
         tell('script-status', 'running');
+        this.#keep();
         let said = '';
         this.page.undo.begin(words[1], terminal ? 'the session' : 'the script');
         this.volume = words[1];
@@ -101,10 +134,11 @@ export class Script {
     /** @param {number | null} status @param {string} said */
     #ended(status, said) {
         this.#flush();
-        this.run = null;
+        this.run = this.ran = null;
         this.isBegun = false;
         this.page.undo.end(this.volume);
-        tell('script-status', said + (status === null ? 'stopped' : `status ${status}`), status === null || status !== 0);
+        this.#tell(said + endOf(status), status !== 0);
+        this.#keep();
         this.#buttons(false);
     }
 

@@ -47,6 +47,9 @@ const REFUSALS = [
     [/\? 3 TOO MANY JOBS/, 'There are eight jobs. FINISH lets them end.'],
     [/\? 11 TOO MANY BREAKS/, '64 breaks are set. Take one away first.'],
     [/\? 5 [A-Z]{2} \d/, 'The text has faults.'],
+    [/^HALT [0-7]{5} AC/m, 'The program has halted.'],
+    [/^KEYS END [0-7]{5}/m, 'The program waits for a key, and none is left.'],
+    [/^UNASSIGNED [0-7]{5} [0-7]{4}/m, 'The word that comes next is no instruction.'],
 ];
 /** @type {Record<string, string>} */
 const OPTIONS = { '[BLOCKS]': 'The blocks of a volume', '--start <FAAAA>': 'The start', '--switches <WWWW>': 'The switches', '--steps <N>': 'The steps', '--date <DATE>': 'The date',
@@ -56,7 +59,7 @@ const OPTIONS = { '[BLOCKS]': 'The blocks of a volume', '--start <FAAAA>': 'The 
 /** @param {string} said */
 export function inWords(said) {
     const plain = said.replace(/\berror: invalid value '([^\n]*)' for '([^\n]*?)': (.*)$/gm, (_, value, what, why) => `${OPTIONS[what] ?? what}: ${reasonOf(value, why)}`)
-        .replace(/^error: /gm, '').replace(/\n*^( *tip: .*|Usage: .*|For more information, try '--help'\.)$/gm, '').replace(/: --lenient reads [^\n]*/g, '');
+        .replace(/\berror: unexpected argument '([^\n]*)' found/g, '$1 can\'t stand there').replace(/^error: /gm, '').replace(/\n*^( *tip: .*|Usage: .*|For more information, try '--help'\.)$/gm, '').replace(/: --lenient reads [^\n]*/g, '');
     const words = REFUSALS.filter(([pattern, text]) => pattern.test(plain) && !plain.includes(text)).map(([, text]) => text);
     return [...words, plain.replace(/\n+$/, '')].join('\n');
 }
@@ -77,3 +80,7 @@ export function stepsIn(reply) {
     const [, steps, why, cell] = /^STEPS (\d+) ([A-Z]+) ([0-7]{5})/.exec(reply) ?? [];
     return STOPS[why] ? `${steps} ${steps === '1' ? 'step' : 'steps'}: ${STOPS[why]} ${cell} (${reply})` : reply;
 }
+
+// How a run ended, in words, with its status.
+/** @param {number | null} status */
+export function endOf(status) { return status === null ? 'It was stopped.' : status === 0 ? 'It is done (status 0).' : `It ended with a fault (status ${status}).`; }

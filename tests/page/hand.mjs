@@ -125,7 +125,6 @@ await run('hand', {
         }
     },
     'each control stays where it was clicked, ten times over': async (page, url) => {
-        page.accepts = false; // nothing is removed
         await page.call('Page.setInterceptFileChooserDialog', { enabled: true });
         await page.size(1280, 600);
         await page.go(url);

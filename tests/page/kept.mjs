@@ -2,7 +2,7 @@
 import { readFileSync, readdirSync } from 'node:fs';
 import { join } from 'node:path';
 import { pause } from './browser.mjs';
-import { answer, create, file, holds, image, isTold, native, pane, run, same, setSource, toCore } from './tools.mjs';
+import { answer, create, file, holds, image, isTold, native, pane, removeVolume, run, same, setSource, toCore } from './tools.mjs';
 
 const ECHO = '*200\nA,\tKSF\n\tJMP A\n\tKRB\n\tTLS\n\tTSF\n\tJMP .-1\n\tJMP A\n$\n';
 // Counts how often it looks for its first key. It prints the count, and once more for the next key.
@@ -143,6 +143,38 @@ await run('kept', {
         await pane(page, 'files');
         await page.until(`!!document.querySelector('tr[data-name="ONE"]')`);
     },
+    'the replies of a script and of a session are there after a reload, with how it ended': async (page, url) => {
+        await page.go(url);
+        await create(page, 'DISK');
+        await pane(page, 'script');
+        await page.fill('#lines', 'DIRECT\nNONSENSE\n');
+        await page.click('#strict');
+        await page.click('#script-run');
+        await isTold(page, 'script-status', 'It ended with a fault (status 1).');
+        const replies = await page.text('replies');
+        holds(replies.startsWith('FREE'), replies);
+        await leave(page);
+        same(replies, await page.text('replies'), 'the replies after a reload');
+        same('It ended with a fault (status 1).', await page.text('script-status'), 'how it ended');
+        await page.click('#session');
+        await page.until(`!document.getElementById('entry-line').disabled`);
+        for (const it of ['STORE ONE 1', 'THE LINE', 'DIRECT']) {
+            await page.fill('#entry-line', it);
+            await page.key('Enter');
+        }
+        await isTold(page, 'replies', 'FREE');
+        const session = await page.text('replies');
+        await leave(page);
+        same(session, await page.text('replies'), 'what the session said');
+        same('It ended as the page was left. The volume has what was stored.', await page.text('script-status'), 'how the session ended');
+        await page.choose('#script-saving', '');
+        await page.fill('#lines', `START 00000\n${'GO 1000000\n'.repeat(900)}`);
+        await page.click('#script-run');
+        await isTold(page, 'replies', 'STARTED 00000');
+        await leave(page);
+        holds((await page.text('replies')).startsWith('STARTED 00000'), 'the replies of a script that was broken off');
+        same('It ended as the page was left. The volume is as it was before.', await page.text('script-status'), 'how the script ended');
+    },
     'a deletion and a removal are undone after a reload, and done again after a further one': async (page, url) => {
         await page.go(url);
         await create(page, 'DISK');
@@ -153,7 +185,7 @@ await run('kept', {
         await page.click('button[aria-label="ONE.TX delete"]');
         await isTold(page, 'files-status', 'DELETED ONE.TX');
         const deleted = await image(page);
-        await page.click('#drop-image');
+        await removeVolume(page);
         await page.until(`document.getElementById('volume').value === ''`);
         await leave(page);
         await pane(page, 'script');

@@ -2,7 +2,7 @@
 // out is compared with the native program PROGRAM. PART takes the tests whose names have it. The last line is 'N passed, M failed'.
 import { randomBytes } from 'node:crypto';
 import { readFileSync, writeFileSync } from 'node:fs';
-import { alone, answer, assemble, create, file, further, holds, image, isTold, native, optionsOf, pane, put, run as runAll, same, setSource } from './tools.mjs';
+import { alone, answer, assemble, create, file, further, holds, image, isTold, native, optionsOf, pane, put, removeVolume, run as runAll, same, setSource } from './tools.mjs';
 
 const ONE = '*200\n\tCLA IAC\n\tHLT\n$\n', TWO = '*200\n\tCLA CMA\n\tHLT\n$\n', BAD = '*200\n\tTAD LIEN\n$\n';
 
@@ -306,9 +306,9 @@ Object.assign(tests, {
         await page.click('#session');
         await isTold(page, 'script-status', 'status 0');
         await pane(page, 'files');
-        await page.click('#drop-image');
+        await removeVolume(page);
         await page.until(`document.getElementById('volume').value === ''`);
-        same('confirm', page.dialogs.join(), 'what asked');
+        same('', page.dialogs.join(), 'what the browser asked');
     },
     'a tab that follows can\'t remove the volume, and sees that it was removed': async (page, url) => {
         const first = await further(page, url);
@@ -317,7 +317,7 @@ Object.assign(tests, {
         await isTold(page, 'follows', 'Another tab has DISK');
         await page.click('#drop-image');
         await isTold(page, 'files-status', '? HOST BUSY');
-        await first.click('#drop-image');
+        await removeVolume(first);
         await page.until(`![...document.getElementById('volume').options].some(it => it.value === 'DISK')`);
         await page.until(`document.getElementById('follows').hidden && document.getElementById('volume-view').hidden`);
     },

@@ -213,6 +213,7 @@ class Sequence {
         if (volume === '') return this.volume();
         const before = this.model.images[volume];
         await this.click('drop-image');
+        await this.page.until(`(it => it && (it.click(), true))(document.querySelector('#question[open] button[value="remove"]'))`);
         await this.page.until(`!geivottu.store.files.has('${volume}')`);
         await this.takes('images', 'volume');
         this.changes(`images ${volume}`, before, undefined);

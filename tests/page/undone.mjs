@@ -1,7 +1,7 @@
 // undone.mjs PROGRAM FOLDER [PART]: what a user changed in the page comes back. It comes back by Undo, by the name of a text, under its own name from
 // home, and after a reload. As losses.mjs otherwise.
 import { readFileSync, writeFileSync } from 'node:fs';
-import { answer, assemble, create, file, further, holds, image, isTold, native, optionsOf, pane, put, run, same, setSource, volume } from './tools.mjs';
+import { answer, assemble, create, file, further, holds, image, isTold, native, optionsOf, pane, put, removeVolume, run, same, setSource, volume } from './tools.mjs';
 
 const ONE = '*200\n\tCLA IAC\n\tHLT\n$\n', TWO = '*200\n\tCLA CMA\n\tHLT\n$\n', BAD = '*200\n\tTAD LIEN\n$\n';
 const MARK = '*200\nSTART,\tCLA CLL CML\n\tTAD WORD\n\t6221\n\tHLT\n\tJMP START\nWORD,\t1234\n$\n';
@@ -78,6 +78,9 @@ await run('undone', {
     'a volume that was removed, or written over, comes back': async (page, url) => {
         const one = await withOne(page, url);
         await page.click('#drop-image');
+        await answer(page, 'Remove DISK from the page?', 0);
+        same('DISK', await volume(page), 'the volume after Leave it');
+        await removeVolume(page);
         await page.until(`document.getElementById('volume').value === ''`);
         await undo(page, 'Undone: the removal of DISK');
         same('DISK', await volume(page), 'the volume');

@@ -2,7 +2,7 @@
 // gone. As losses.mjs otherwise.
 import { randomBytes } from 'node:crypto';
 import { readFileSync, writeFileSync } from 'node:fs';
-import { answer, create, file, image, isTold, native, pane, put, run, same, setSource, toCore, volume } from './tools.mjs';
+import { answer, create, file, image, isTold, native, pane, put, removeVolume, run, same, setSource, toCore, volume } from './tools.mjs';
 
 const THREE = '*200\n\tCLA IAC\n\tIAC\n\tIAC\n\tHLT\n$\n';
 // Lays each key that is struck into the cells from 00400 on.
@@ -52,7 +52,7 @@ await run('whole', {
         await create(page, 'DISK');
         await create(page, 'OTHER', 20);
         await page.look('geivottu.store.settled()');
-        await page.click('#drop-image');
+        await removeVolume(page);
         await page.until(`document.getElementById('volume').value === 'DISK'`);
         await again(page, url);
         same('DISK', await page.look(volumes), 'the volumes');
