@@ -1,5 +1,6 @@
-// What is dropped on the page goes where it belongs, by what it holds. An image opens. A tape goes to the Teletype, to core or to the volume that is open,
-// as the user says. Any other is a file of the volume, or a text for Source. What is none of these is asked for, on the pane in sight.
+// What is dropped on the page, or chosen by a button of a pane, goes where it belongs, by what it holds. An image opens. A tape goes to the Teletype, to
+// core or to the volume that is open, as the user says. Any other is a file of the volume, or a text for Source. What is none of these is asked for, on
+// the pane in sight.
 import { $, bytesOfFile } from './dom.js';
 import { ask } from './ask.js';
 import { isText } from './encoding.js';
@@ -28,11 +29,37 @@ export class Drops {
     /** @param {File[]} all */
     async take(all) { for (const file of all) await this.#takeOne(file, all.length === 1); }
 
+    // Takes the file that was chosen by a pane's own button. What that is for opens at once, and any other as what it is.
+    /** @param {HTMLInputElement} input @param {'files' | 'source' | 'teletype'} pane */
+    async chosen(input, pane) {
+        const [file] = input.files ?? [], { files, source, teletype } = this.page;
+        input.value = '';
+        const bytes = file && await this.#bytesOf(file), isShort = bytes && bytes.length <= MOST;
+        if (!bytes) return;
+        if (pane === 'source' && isShort && isText(bytes)) return source.take(file.name, bytes);
+        const tape = pane !== 'source' && isShort && bytes.length ? await tapeOf(this.page, bytes) : null, isTape = tape?.status === 0;
+        if (isTape && pane === 'teletype') return teletype.take(file.name, bytes);
+        if (pane !== 'files') return this.#takeOne(file, true);
+        return isTape && !isVolume(await kindOf(this.page, bytes)) ? this.#tape(file, bytes, tape.out) : files.take(file);
+    }
+
+    // The bytes of a file, null for a folder and for what can't be read.
+    /** @param {File} file */
+    async #bytesOf(file) {
+        try {
+            return await bytesOfFile(file);
+        } catch {
+            this.page.say(`${file.name} can't be read: it is a folder, or another program has it.`, true);
+            return null;
+        }
+    }
+
     // Takes one, which was dropped alone or with others.
     /** @param {File} file @param {boolean} isAlone */
     async #takeOne(file, isAlone) {
-        const { files, source, tabs } = this.page, isHere = files.name !== '' && !$('files').hidden;
-        const bytes = await bytesOfFile(file), asked = await kindOf(this.page, bytes.length > MOST ? new Uint8Array(0) : bytes);
+        const { files, source, tabs } = this.page, isHere = files.name !== '' && !$('files').hidden, bytes = await this.#bytesOf(file);
+        if (!bytes) return;
+        const asked = await kindOf(this.page, bytes.length > MOST ? new Uint8Array(0) : bytes);
         if (bytes.length > MOST || isVolume(asked)) return files.take(file);
         if (isHere && !isAlone) return files.putFiles([file]);
         const tape = bytes.length ? await tapeOf(this.page, bytes) : null;

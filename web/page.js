@@ -122,7 +122,7 @@ async function begin() {
     page.tabs.show(page.tabs.shown ?? PANES[0]);
     if (isNew) await layFirst(page);
     $('kept').textContent = store.isKept ? 'What you open and write stays in this browser until you remove it.'
-        : 'This browser keeps nothing: take home what you want to keep.';
+        : 'This browser keeps nothing: save on your computer what you want to keep.';
     if (!canLive)
         $('kept').append(' Without promises in WebAssembly calls (JSPI) or an isolated page, the Machine, and programs that wait for a key, '
             + 'can\'t run here; whole scripts can.');

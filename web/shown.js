@@ -57,12 +57,12 @@ export class Shown {
     /** @param {Entry} entry @param {import('./tapes.js').Tape} tape @param {...string} how */
     async source(entry, tape, ...how) {
         const { programs, store } = this.page, { starts, names } = this.hintsOf(entry);
-        const words = ['source', ...how, ...(starts.match(/\S+/g) ?? []).flatMap(it => ['--start', it])];
+        const words = ['source', ...how, ...(starts.match(/\S+/g) ?? []).map(it => `--start=${it}`)];
         if (names.trim() !== '') {
             store.put('.names', bytesOf(names.endsWith('\n') ? names : `${names}\n`));
             words.push('--names', '.names');
         }
-        const start = tape.start !== undefined && !words.includes('--start') ? ['--start', tape.start] : [];
+        const start = tape.start !== undefined && !starts.trim() ? ['--start', tape.start] : [];
         const given = await (isNamedCore(entry) ? programs.ask([...words, ...wordsOf(this.#volume), entry.name]) : programs.ask([...words, ...start], tape.out));
         store.remove('.names');
         return given;
@@ -127,7 +127,7 @@ export class Shown {
         if (form === 'tape') return programs.ask(['tape'], tape.out);
         const [start] = this.hintsOf(entry).starts.match(/\S+/g) ?? (tape.start ? [tape.start] : []);
         store.put('.shown.bin', tape.out);
-        const answer = await programs.ask([form, '.shown.bin', ...(start ? ['--start', start] : []), ...doingOf('shown')]);
+        const answer = await programs.ask([form, '.shown.bin', ...(start ? [`--start=${start}`] : []), ...doingOf('shown')]);
         store.remove('.shown.bin');
         return answer;
     }

@@ -1,5 +1,5 @@
 // The Source pane: `assemble` over the text, its faults at their lines, its listing and symbols, and where the tape goes.
-import { $, bytesOfFile, ids, made, replace, rove, takeHome, tell } from './dom.js';
+import { $, ids, made, replace, rove, takeHome, tell } from './dom.js';
 import { ask } from './ask.js';
 import { encoded, homeOf, isText, shownOf } from './encoding.js';
 import { bytesOf, textOf } from './program.js';
@@ -56,7 +56,7 @@ export class Source {
         $('to-core').addEventListener('click', () => this.#toCore());
         $('to-teletype').addEventListener('click', () => this.#toTeletype());
         $('to-volume').addEventListener('click', () => this.#toVolume());
-        $('source-file').addEventListener('change', () => this.#opened($('source-file')));
+        $('source-file').addEventListener('change', () => page.files.drops.chosen($('source-file'), 'source'));
         $('example').addEventListener('change', () => this.#example($('example')));
         page.store.addEventListener('volume', () => this.#buttons());
         page.store.addEventListener('note', ({ detail }) => this.#followed(detail));
@@ -95,7 +95,7 @@ export class Source {
 
     // The texts that are assembled as one: the open one, and those in which it goes on.
     get parts() {
-        const { notes } = this.page.store, names = $('further').value.toUpperCase().match(/[A-Z0-9]+/g) ?? [];
+        const { notes } = this.page.store, names = $('further').value.toUpperCase().split(/[\s,]+/).filter(it => it !== '');
         return [{ name: this.#name, text: $('text').value }, ...names.map(name => ({ name, text: /** @type {string | undefined} */ (notes.get(`text ${name}`)) }))];
     }
 
@@ -428,13 +428,6 @@ export class Source {
         if (volume !== null) this.page.store.note(`from ${this.texts.name}`, { volume, name, was: bytes });
         this.#buttons();
         this.page.tabs.show('source');
-    }
-
-    /** @param {HTMLInputElement} input */
-    async #opened(input) {
-        const [file] = input.files ?? [];
-        input.value = '';
-        if (file) await this.take(file.name, await bytesOfFile(file));
     }
 
     // Opens a text of the host as a further one. What is plainly no text is asked for. Whether it is open.

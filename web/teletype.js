@@ -1,5 +1,5 @@
 // The Teletype pane: `teletype --live`, whose keys are struck at the paper, in a line, or by the tape reader.
-import { $, bytesOfFile, ids, keepInput, made, tell } from './dom.js';
+import { $, ids, keepInput, made, tell } from './dom.js';
 import { ask } from './ask.js';
 import { Owner } from './owner.js';
 import { canLive, textOf } from './program.js';
@@ -7,6 +7,7 @@ import { Paper, keyOf } from './paper.js';
 import { Reads } from './reads.js';
 import { got, isNamedCore, placeOf, tapeIn, tapeOf } from './tapes.js';
 import { titleOf, wordsOf } from './volumes.js';
+import { endOf } from './words.js';
 
 export class Teletype {
     /** @param {Page} page */
@@ -37,7 +38,7 @@ export class Teletype {
         $('keys').addEventListener('submit', event => this.#line(event));
         $('read').addEventListener('click', () => this.strike($('reader').value));
         $('tape').addEventListener('change', () => page.store.note('tty-tape', $('tape').value));
-        $('tape-file').addEventListener('change', () => this.#opened($('tape-file')));
+        $('tape-file').addEventListener('change', () => page.files.drops.chosen($('tape-file'), 'teletype'));
         page.store.addEventListener('volume', () => this.#list());
         page.store.addEventListener('tape', () => this.#list());
         this.#list();
@@ -131,13 +132,6 @@ export class Teletype {
         $('tape').value = tape;
     }
 
-    /** @param {HTMLInputElement} input */
-    async #opened(input) {
-        const [file] = input.files ?? [];
-        input.value = '';
-        if (file) await this.take(file.name, await bytesOfFile(file));
-    }
-
     // Takes a tape of the host.
     /** @param {string} name @param {Uint8Array} tape */
     async take(name, tape) {
@@ -156,8 +150,8 @@ export class Teletype {
         else if (tape === 'source') words.push('.source.bin');
         else if (tape === 'own') words.push('.tape.bin');
         else words.push(...wordsOf(this.page.files.name), tape.slice(5));
-        if ($('tty-start').value.trim()) words.push('--start', $('tty-start').value.trim());
-        if ($('tty-switches').value.trim()) words.push('--switches', $('tty-switches').value.trim());
+        if ($('tty-start').value.trim()) words.push(`--start=${$('tty-start').value.trim()}`);
+        if ($('tty-switches').value.trim()) words.push(`--switches=${$('tty-switches').value.trim()}`);
         return words;
     }
 
@@ -209,7 +203,7 @@ export class Teletype {
         this.isBegun = false;
         this.page.store.note('tty-going', false);
         this.reads.end();
-        tell('tty-status', said || (status === null ? 'stopped' : `status ${status}`), status !== 0 && status !== null);
+        tell('tty-status', said || endOf(status), status !== 0 && status !== null);
         this.#buttons();
     }
 

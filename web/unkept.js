@@ -21,7 +21,7 @@ export class Unkept {
     #tell() {
         const { unkept } = this.page.store, names = unkept.map(({ slot, key }) => slot === 'files' ? key : wordsOf(key)).join(', ');
         const words = names && `This browser can't keep what you changed: its store is full, or refuses. Not kept: ${names}. `
-            + 'Take it home before you leave the page.';
+            + 'Save it before you leave the page.';
         $('unkept').hidden = words === '';
         if ($('unkept-words').textContent !== words) $('unkept-words').textContent = words;
     }

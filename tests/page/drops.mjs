@@ -1,7 +1,7 @@
 // drops.mjs PROGRAM FOLDER [PART]: what comes into the page stays what it is, what is shown is what is there, and a refusal is seen and has plain words.
 // As losses.mjs otherwise.
-import { readFileSync, writeFileSync } from 'node:fs';
-import { answer, create, file, holds, image, isTold, native, optionsOf, pane, put, run, same } from './tools.mjs';
+import { mkdirSync, readFileSync, writeFileSync } from 'node:fs';
+import { answer, create, file, holds, image, isTold, native, optionsOf, pane, put, run, same, setSource } from './tools.mjs';
 
 const MARKS = '*200\r\n/ Gr\u00fc\u00dfe \u2318\r\n\tHLT\r\n$\r\n\u001a';
 const text = page => page.look(`document.getElementById('text').value`);
@@ -106,6 +106,52 @@ await run('drops', {
         await isTold(page, 'script-status', 'STORED ODD.DA');
         await page.until(`geivottu.files.entries.some(it => it.name === 'ODD.DA')`);
     },
+    'what is chosen in a pane is opened as what it is, whatever the button is for': async (page, url) => {
+        await page.go(url);
+        native(['create', 'V', '90']);
+        writeFileSync(file('it.pa'), '*200\n\tHLT\n$\n');
+        writeFileSync(file('odd.da'), Buffer.from([1, 2, 3, 255, 0]));
+        native(['assemble', 'it.pa', '--output', 'it.bn']);
+        await pane(page, 'source');
+        await page.give('#source-file', file('V'));
+        await isTold(page, 'source-status', 'V is open: the pane Files shows it.');
+        same('no name yet', await names(page), 'the texts');
+        await page.give('#source-file', file('it.bn'));
+        await answer(page, 'it.bn is a tape', 0);
+        await page.until(`geivottu.tabs.shown === 'teletype' && document.getElementById('tape').selectedOptions[0].textContent === 'it.bn'`);
+        await page.give('#tape-file', file('it.pa'));
+        await page.until(`geivottu.tabs.shown === 'source' && document.getElementById('source-name').value === 'IT'`);
+        await pane(page, 'teletype');
+        await page.give('#tape-file', file('odd.da'));
+        await answer(page, 'odd.da is no image and no tape', 0);
+        await isTold(page, 'tty-status', 'odd.da was not opened');
+        same('it.bn', await page.look(`document.getElementById('tape').selectedOptions[0].textContent`), 'the tape');
+        await pane(page, 'files');
+        await page.give('#image', file('it.bn'));
+        await answer(page, 'it.bn is a tape', 0);
+        await isTold(page, 'files-status', 'STORED IT.BN');
+        await page.give('#image', file('odd.da'));
+        await isTold(page, 'files-status', 'odd.da: ? IMAGE');
+        same('V', await page.look(`geivottu.files.images.join()`), 'the images');
+    },
+    'an image that is dropped on another pane, and one that can\'t be opened, say so there': async (page, url) => {
+        await page.go(url);
+        await create(page, 'DISK');
+        await pane(page, 'script');
+        await page.click('#session');
+        await page.until(`!document.getElementById('entry-line').disabled`);
+        await pane(page, 'machine');
+        await page.drop('#panel', file('DISK'));
+        await answer(page, 'There is a volume DISK', 1);
+        await isTold(page, 'machine-status', 'DISK: ? HOST BUSY');
+        mkdirSync(file('FOLDER'));
+        await page.drop('#panel', file('FOLDER'));
+        await isTold(page, 'machine-status', 'FOLDER can\'t be read: it is a folder');
+        native(['create', 'OTHER', '90']);
+        await page.drop('#panel', file('OTHER'));
+        await isTold(page, 'machine-status', 'OTHER is open: the pane Files shows it.');
+        same('machine', await page.look('geivottu.tabs.shown'), 'the pane');
+    },
     'a put asks for a name that the page would cut, and for the form of what isn\'t what its name says': async (page, url) => {
         await page.go(url);
         await create(page, 'DISK');
@@ -157,7 +203,24 @@ await run('drops', {
         await page.fill('#block-number', 'x');
         await page.key('Enter');
         await isTold(page, 'dump-status', 'A block has a number: x is none.');
-        await pane(page, 'source');
+        await page.fill('#new-name', 'E');
+        await page.fill('#new-blocks', '-1');
+        await page.click('#create');
+        await isTold(page, 'files-status', 'The blocks of a volume: -1 is no number');
+        await page.click('#put-date');
+        await page.until(`document.getElementById('question').open`);
+        await page.type('yesterday');
+        await page.key('Enter');
+        await isTold(page, 'files-status', 'A date is given as 1974-03-12, or as their own, or none: yesterday is none of these.');
+        same('Date: none', await page.text('put-date'), 'the date');
+        await setSource(page, '*200\n\tHLT\n$\n');
+        await page.fill('#doing-steps', '-3');
+        await page.click('#trace');
+        await isTold(page, 'source-status', 'The steps: -3 is no number');
+        await page.fill('#further', '!!');
+        await page.click('#assemble');
+        await isTold(page, 'source-status', 'There is no text !! that waits');
+        await page.fill('#further', '');
         await page.fill('#source-name', 'a-b');
         await page.key('Tab');
         await isTold(page, 'source-status', 'A text\'s name has at most six letters or digits.');

@@ -6,7 +6,7 @@ import { fileURLToPath } from 'node:url';
 import { pause } from './browser.mjs';
 import { assemble, file, isTold, native, pane, run } from './tools.mjs';
 
-const top = dirname(dirname(dirname(fileURLToPath(import.meta.url)))), to = join(top, 'target/pictures'), docs = join(top, 'docs/pictures');
+const top = dirname(dirname(dirname(fileURLToPath(import.meta.url)))), to = process.env.PICTURES ?? join(top, 'target/pictures'), docs = join(top, 'docs/pictures');
 const GUESS = readFileSync(join(top, 'examples/guess.pa'), 'latin1');
 const SCRIPT = 'STORE S.PA 4\n*200\n\tCLA IAC\n\tHLT\n$\nASSEMBLE S.BN<S.PA\nFINISH\nLOAD S.BN\nFINISH\nRUN 00200 10\nREGISTERS\nNONSENSE\nDIRECT\n';
 // What the documents show.
