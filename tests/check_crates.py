@@ -20,8 +20,8 @@ LEAST = 30
 # Smaller libraries for one crate or none, and why they stand alone.
 ALONE = {
     "statement_runs": "where a statement begins is a rule of the language, and the listing of its faults is one user of it",
-    "trace8": "the line of a step, which any machine that steps has",
-    "profile8": "counts of fetches, which have nothing of a command",
+    "trace8e": "the line of a step of the 8/E, which any program that steps one has",
+    "profile8e": "counts of fetches on the 8/E, which have nothing of a command",
     "instructions8": "laws over the assembler, the processor and the disassembler, which none of these can have",
     "text_columns": "columns that line up, of whatever text",
     "keeper_laws": "laws over the commands that change an image",

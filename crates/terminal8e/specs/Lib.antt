@@ -1,0 +1,5 @@
+pub mod Asks
+pub mod Terminal
+pub mod Run
+pub mod RunSteps
+pub mod Laws

@@ -1,0 +1,132 @@
+//! When a program asks for a key, and when it does nothing but wait for one.
+
+ghost use Rattle.std.specs.Prelude.{◌≡◌, ◌<◌};
+ghost use Rattle.cpu8e.specs.Step.{next_word};
+ghost use Rattle.terminal8.specs.Asks.{jumps_back};
+ghost use Rattle.terminal8e.specs.Asks.{asks_for_key, is_at_ksf, is_at_rest, is_requested_without_key, is_undisturbed, is_waiting, may_see_key, tests_keyboard, waits_for_key};
+
+use cpu8e::Machine;
+use word12::{Cell, PAGE, Word};
+
+/// Whether the program asks for a key, so many steps after the last look. It does where no key is unread, and one of these holds. It
+/// waits in `KSF; JMP .-1`; or it looks for one, by a KSF or with the console's interrupts on, and the steps are 30,000 at least, a
+/// tenth of a second.
+pub fn asks_for_key(since: u64, machine: &Machine) -> bool
+    ensures { result ≡ asks_for_key since machine.now }
+{
+    !machine.keyboard_flag()
+        && (is_waiting(machine) || (since >= TENTH_OF_A_SECOND && may_see_key(machine)))
+}
+
+/// Whether the machine waits for a key in `KSF; JMP .-1`, and would do so for ever if none came.
+pub fn waits_for_key(machine: &Machine) -> bool
+    ensures { result ≡ waits_for_key machine.now }
+{
+    machine.is_running()
+        && !machine.keyboard_flag()
+        && is_at_ksf(machine)
+        && jumps_back(machine)
+        && is_at_rest(machine)
+}
+
+/// Whether the next step is a KSF to which a JMP leads back.
+#[inline(always)]
+fn is_waiting(machine: &Machine) -> bool
+    ensures { result ≡ is_waiting machine.now }
+{
+    tests_keyboard(machine) && jumps_back(machine)
+}
+
+/// Whether the program would see a key.
+#[inline(always)]
+fn may_see_key(machine: &Machine) -> bool
+    ensures { result ≡ may_see_key machine.now }
+{
+    tests_keyboard(machine) || (machine.interrupts_on() && machine.console_enabled())
+}
+
+/// Whether the next step asks whether a key was struck.
+#[inline(always)]
+fn tests_keyboard(machine: &Machine) -> bool
+    ensures { result ≡ tests_keyboard machine.now }
+{
+    is_at_ksf(machine) && !machine.user_flag() && is_undisturbed(machine)
+}
+
+/// Whether the next instruction is KSF.
+#[inline(always)]
+fn is_at_ksf(machine: &Machine) -> bool
+    ensures { result ≡ is_at_ksf machine.now }
+{
+    next_word(machine).get() == KSF
+}
+
+/// The word of the next instruction.
+#[inline(always)]
+fn next_word(machine: &Machine) -> Word
+    ensures value { result ≡ next_word machine.now }
+    ensures range { result < 0o10000 }
+{
+    machine.core().get(machine.next_cell())
+}
+
+/// Whether the machine runs, and no interrupt comes in place of the next instruction. The printer ends its character before.
+fn is_undisturbed(machine: &Machine) -> bool
+    ensures { result ≡ is_undisturbed machine.now }
+{
+    let console = machine.keyboard_flag() || machine.printer_flag() || machine.is_busy();
+    let requests = machine.user_request() || machine.console_enabled() && console;
+    let grants = machine.interrupts_on()
+        && !machine.is_waiting()
+        && !machine.is_held_off()
+        && requests;
+    machine.is_running() && !grants
+}
+
+/// Whether the word after the next instruction is a direct JMP back to it.
+fn jumps_back(machine: &Machine) -> bool
+    ensures { result ≡ jumps_back machine.now.base }
+{
+    let next = machine.pc().plus(Word::low(1));
+    let word = machine
+        .core()
+        .get(Cell::at(machine.instruction_field(), next));
+    let page = if word.get() / CURRENT_PAGE % 2 == 1 {
+        next.get() / PAGE * PAGE
+    } else {
+        0
+    };
+    word.get() / 0o400 == DIRECT_JMP && page + word.get() % PAGE == machine.pc().get()
+}
+
+/// Whether nothing changes by itself: no user mode, no character is printing, nothing waits for an instruction or a jump, and no
+/// interrupt is requested where they are on.
+fn is_at_rest(machine: &Machine) -> bool
+    ensures { result ≡ is_at_rest machine.now }
+{
+    !machine.user_flag()
+        && !machine.user_buffer()
+        && !machine.is_busy()
+        && !machine.is_waiting()
+        && !machine.is_held_off()
+        && machine.instruction_buffer() == machine.instruction_field()
+        && !(machine.interrupts_on() && is_requested_without_key(machine))
+}
+
+/// Whether an interrupt is requested that is not the keyboard's.
+fn is_requested_without_key(machine: &Machine) -> bool
+    ensures { result ≡ is_requested_without_key machine.now }
+{
+    machine.user_request() || (machine.console_enabled() && machine.printer_flag())
+}
+
+/// So many steps take a tenth of a second.
+const TENTH_OF_A_SECOND: u64 = 30_000;
+
+const KSF: u16 = 0o6031;
+
+/// A direct JMP without its page bit and its offset, 5000 to 5377.
+const DIRECT_JMP: u16 = 0o12;
+
+/// The bit of a reference to memory that is for the current page.
+const CURRENT_PAGE: u16 = 0o200;

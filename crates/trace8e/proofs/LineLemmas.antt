@@ -1,0 +1,101 @@
+-- The line of a step, by what stood before it.
+use Rattle.std.proofs.Common.{◌≡◌, ℕ, ◌+◌, zero, suc, Bool, Option, Some, None, option_to_list, List, [], ◌∷◌, ◌++◌, append-nil, append_assoc, add-one, refl, ap, sym, subst, ◌∙◌, arith}
+use Rattle.word12.specs.Octal.{octal4, octal5}
+use Rattle.cpu8.specs.State.{State, next_cell}
+use Rattle.cpu8.specs.Step.{next_word}
+use Rattle.cpu8e.specs.State.{State8e}
+use Rattle.cpu8.specs.declared.outcomes.Stepped.{Stepped}
+use Rattle.cpu8.specs.declared.outcomes.Stepped.TheVariants.{Stopped, Interrupted, Ran, Halted, Unassigned}
+use Rattle.tape_source.specs.Lines.{with_lead}
+use Rattle.tape_source.specs.Statements.{instruction}
+use Rattle.terminal8e.specs.Terminal.{Terminal, later, next, after_step}
+use Rattle.trace8.specs.Stores.{changing_cells}
+use Rattle.trace8.specs.Trace.{change_text, changes_text, instruction_text, printed_text, step_text}
+use Rattle.trace8e.specs.Trace.{next_line, registers_text, step_line, trace_lines}
+use Rattle.trace8.specs.StoresSteps.{change_line, word_at}
+use Rattle.trace8e.specs.StoresSteps.{IsBefore, change_lines, instruction_line, trace_line, step_report}
+use Rattle.trace8e.specs.declared.stores.Before.{Before}
+
+-- ## One line
+
+told-instruction : (tagged : ℕ → Bool) (s : State) (b : Before) → IsBefore s b → instruction_line tagged b ≡ instruction_text tagged s
+told-instruction tagged s b is =
+    ap (λ c. octal5 c ++ 0o40 ∷ octal4 b.word ++ with_lead 9 (instruction tagged c b.word)) is.cell
+    ∙ ap (λ w. octal5 (next_cell s) ++ 0o40 ∷ octal4 w ++ with_lead 9 (instruction tagged (next_cell s) w)) is.word
+
+told-step : (tagged : ℕ → Bool) (s : State) (b : Before) (did : Stepped) → IsBefore s b → step_report tagged b did ≡ step_text tagged s did
+told-step tagged s b Stopped is = told-instruction tagged s b is
+told-step tagged s b Interrupted is = refl
+told-step tagged s b (Ran printed) is = told-instruction tagged s b is
+told-step tagged s b Halted is = told-instruction tagged s b is
+told-step tagged s b (Unassigned word) is = told-instruction tagged s b is
+
+told-cells : (old new : List ℕ) (pointer stored : Option ℕ)
+    → change_line pointer (word_at old pointer) new ++ change_line stored (word_at old stored) new
+    ≡ changes_text old new (option_to_list pointer ++ option_to_list stored)
+told-cells old new None None = refl
+told-cells old new None (Some at) = sym (append-nil (change_text old new at))
+told-cells old new (Some cell) None = refl
+told-cells old new (Some cell) (Some at) = ap (λ l. change_text old new cell ++ l) (sym (append-nil (change_text old new at)))
+
+told-changes : (s : State) (b : Before) (did : Stepped) (new : List ℕ) → IsBefore s b
+    → change_lines b did new ≡ changes_text s.core new (changing_cells s (next_word s) did)
+told-changes s b Stopped new is = refl
+told-changes s b Interrupted new is =
+    ap (λ word. change_line (Some 0) word new) is.first_word ∙ sym (append-nil (change_text s.core new 0))
+told-changes s b (Ran printed) new is =
+    ap (λ word. change_line b.pointer word new ++ change_line b.stored_cell b.stored_word new) is.pointer_word
+    ∙ ap (λ word. change_line b.pointer (word_at s.core b.pointer) new ++ change_line b.stored_cell word new) is.stored_word
+    ∙ told-cells s.core new b.pointer b.stored_cell
+    ∙ ap (λ cells. changes_text s.core new cells) is.cells
+told-changes s b Halted new is = refl
+told-changes s b (Unassigned word) new is = refl
+
+told-line : (tagged : ℕ → Bool) (s : State8e) (b : Before) (did : Stepped) (s' : State8e) → IsBefore s.base b
+    → trace_line tagged b did s' ≡ step_line tagged s did s'
+told-line tagged s b did s' is =
+    ap (λ l. l ++ registers_text s' ++ change_lines b did s'.base.core ++ printed_text did ++ 10 ∷ []) (told-step tagged s.base b did is)
+    ∙ ap (λ l. step_text tagged s.base did ++ registers_text s' ++ l ++ printed_text did ++ 10 ∷ []) (told-changes s.base b did s'.base.core is)
+
+pub told-next : (tagged : ℕ → Bool) (t : Terminal) (b : Before) (did : Stepped) (s' : State8e) → IsBefore t.machine.base b
+    → did ≡ (after_step t).1 → s' ≡ (after_step t).0 → trace_line tagged b did s' ≡ next_line tagged t
+unfolding next_line
+told-next tagged t b did s' is did_is machine_is =
+    told-line tagged t.machine b did s' is
+    ∙ ap (λ d. step_line tagged t.machine d s') did_is
+    ∙ ap (λ x. step_line tagged t.machine (after_step t).1 x) machine_is
+
+-- the line that a step appends
+pub appended : (tagged : ℕ → Bool) (t t' : Terminal) (s s' : State8e) (b : Before) (did : Stepped) (lines lines' : List ℕ) → s ≡ t.machine → IsBefore s.base b
+    → t' ≡ next t → did ≡ (after_step t).1 → s' ≡ t'.machine → lines' ≡ lines ++ trace_line tagged b did s' → lines' ≡ lines ++ next_line tagged t
+appended tagged t t' s s' b did lines lines' at is step did_is left line =
+    line
+    ∙ ap (λ l. lines ++ l) (told-next tagged t b did s' (subst (λ (u : State8e). IsBefore u.base b) at is) did_is (left ∙ ap (λ (x : Terminal). x.machine) step))
+
+-- ## Lines
+
+pub lines-none : (tagged : ℕ → Bool) (t : Terminal) → trace_lines tagged 0 t ≡ []
+unfolding trace_lines
+lines-none tagged t = refl
+
+pub lines-next : (tagged : ℕ → Bool) (k : ℕ) (t : Terminal) → trace_lines tagged (k + 1) t ≡ trace_lines tagged k t ++ next_line tagged (later k t)
+unfolding trace_lines
+lines-next tagged k t = rw add-one refl
+
+pub lines-add : ((a b : ℕ) (t : Terminal) → later (a + b) t ≡ later b (later a t)) → (tagged : ℕ → Bool) (a b : ℕ) (t : Terminal)
+    → trace_lines tagged (a + b) t ≡ trace_lines tagged a t ++ trace_lines tagged b (later a t)
+lines-add adds tagged a zero t =
+    let e : a + 0 ≡ a = omega arith in
+    ap (λ k. trace_lines tagged k t) e
+    ∙ sym (append-nil (trace_lines tagged a t))
+    ∙ ap (λ l. trace_lines tagged a t ++ l) (sym (lines-none tagged (later a t)))
+lines-add adds tagged a (suc b) t =
+    let e : a + suc b ≡ a + b + 1 = omega arith in
+    let f : b + 1 ≡ suc b = omega arith in
+    ap (λ k. trace_lines tagged k t) e
+    ∙ lines-next tagged (a + b) t
+    ∙ ap (λ l. l ++ next_line tagged (later (a + b) t)) (lines-add adds tagged a b t)
+    ∙ ap (λ x. (trace_lines tagged a t ++ trace_lines tagged b (later a t)) ++ next_line tagged x) (adds a b t)
+    ∙ append_assoc (trace_lines tagged a t) (trace_lines tagged b (later a t)) (next_line tagged (later b (later a t)))
+    ∙ ap (λ l. trace_lines tagged a t ++ l) (sym (lines-next tagged b (later a t)))
+    ∙ ap (λ k. trace_lines tagged a t ++ trace_lines tagged k (later a t)) f

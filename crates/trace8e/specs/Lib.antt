@@ -1,0 +1,4 @@
+pub mod Trace
+pub mod Tracing
+pub mod StoresSteps
+pub mod TracingSteps

@@ -1,0 +1,26 @@
+-- The steps of tracing, for private clauses.
+use Rattle.std.specs.Prelude.{◌≡◌, ℕ, ◌≤◌, Bool, List, ◌++◌, Option, Result, Ok, Err}
+use Rattle.std.specs.Io.KnownBytes.{Appends}
+use Rattle.terminal8e.specs.Terminal.{Terminal, later, IsRun}
+use Rattle.terminal8.specs.declared.outcomes.Ended.{Ended}
+use Rattle.trace8e.specs.Trace.{trace_lines}
+use Rattle.trace8e.specs.Tracing.{IsCut}
+use Rattle.trace8.specs.declared.faults.TraceFault.{TraceFault}
+
+-- Of the lines of so many steps a writer got the first, and the others wait.
+pub record AreLines (tagged : ℕ → Bool) (t : Terminal) (w w' : Option (List ℕ)) (lines : List ℕ) (steps : ℕ) : Type 0 where
+  pub written : ℕ
+  pub first : written ≤ steps
+  pub handed : Appends w w' (trace_lines tagged written t)
+  pub in_order : trace_lines tagged written t ++ lines ≡ trace_lines tagged steps t
+
+-- a run was made, whose last lines may wait
+pub record IsTracedInto (tagged : ℕ → Bool) (n : ℕ) (t t' : Terminal) (w w' : Option (List ℕ)) (lines : List ℕ) (ended : Ended) : Type 0 where
+  pub run : IsRun t n ended.steps ended.why
+  pub terminal : t' ≡ later ended.steps t
+  pub lines_are : AreLines tagged t w w' lines ended.steps
+
+-- what a trace does whose last lines may wait
+abbrev pub TracesInto : (ℕ → Bool) → ℕ → Terminal → Terminal → Option (List ℕ) → Option (List ℕ) → List ℕ → Result Ended TraceFault → Type 0
+TracesInto tagged n t t' w w' lines (Ok ended) = IsTracedInto tagged n t t' w w' lines ended
+TracesInto tagged n t t' w w' lines (Err fault) = IsCut tagged n t t' w w' fault
