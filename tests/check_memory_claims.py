@@ -119,6 +119,9 @@ PLACES: dict[str, dict[str, tuple[int, str]]] = {
     "trace8/src/traces.rt": {
         "trace": (1, "the lines that wait, some pages, asked for once"),
     },
+    "trace8e/src/traces.rt": {
+        "trace": (1, "the lines that wait, some pages, asked for once"),
+    },
 }
 
 

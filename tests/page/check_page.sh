@@ -16,7 +16,7 @@ for word; do
 done
 which=--proved program=crates/pdp8/out/pdp8 texts=() scripts=1000 sequences=50 browsed='kept tabs drops hand closed undone losses archives shelf panel disks whole offers'
 if [[ " $* " == *" --quick "* ]]; then
-    which=--unproved program=target/unproved/pdp8/pdp8 texts=(README.md docs/*.md docs/*/*.md) scripts=100 sequences= browsed=losses
+    which=--unproved program=target/unproved/pdp8/pdp8 texts=(README.md docs/*.md docs/*/*.md) scripts=100 sequences='' browsed=losses
 fi
 folder=target/page
 client=target/wasm/client

@@ -44,7 +44,7 @@ pub fn inner_numbers()
     ensures stays { (stay : ℕ) → next_stay stay ≡ (if nat_lt stay 4294967295 then stay + 1 else stay) }
     ensures harmless { (options : Chosen) (sources : List (Bor (List ℕ))) (most : ℕ) → further_faults options sources most
         ≡ take most (faults_after options (is_passed options (ended_texts (bytes_in sources))) sources 100 (ended_texts (bytes_in sources))) }
-    ensures sizes { (size : ℕ) → are_blocks size ≡ (size % 512 == 0 && (nat_le 4096 size && nat_le size 2096640)) }
+    ensures sizes { (size : ℕ) → are_blocks size ≡ (size % 512 == 0 && (nat_le (8 * 512) size && nat_le size 2096640)) }
     ensures words { (bytes : List ℕ) (blocks : Blocks) (info n k : ℕ) → next_word bytes blocks info n k ≡ min (k + entry_words bytes blocks info n k) 0o400 }
     ensures places { (blocks : Blocks) (n k : ℕ) → byte_of blocks n k
         ≡ (if blocks.is_tape then blocks.start + 258 * (2 * n + k / 0o200) + 2 * (k % 0o200) else blocks.start + 512 * n + 2 * k) }
