@@ -63,7 +63,7 @@ export class Blocks {
     // Draws the picture.
     draw() {
         if (!this.all.length) return;
-        const canvas = $('blocks'), style = getComputedStyle(canvas), width = Math.max(200, canvas.clientWidth);
+        const canvas = $('blocks'), width = Math.max(200, canvas.clientWidth);
         const count = this.all.length, across = Math.max(32, Math.min(Math.floor(width / 6), Math.ceil(Math.sqrt(count * 6))));
         const side = Math.floor(width / across), down = Math.ceil(count / across), scale = devicePixelRatio || 1;
         this.across = width / across;
@@ -71,7 +71,7 @@ export class Blocks {
         canvas.height = down * side * scale;
         canvas.style.height = `${down * side}px`;
         this.side = side;
-        const colours = Object.fromEntries(COLOURS.map(it => [it, colourOf(style, `--${it}`)]));
+        const colours = coloursNow();
         const brush = /** @type {CanvasRenderingContext2D} */ (canvas.getContext('2d'));
         brush.scale(scale, scale);
         this.all.forEach(({ kind }, block) => {
@@ -123,13 +123,11 @@ function mark(brush, kind, x, y, width, height) {
     brush.stroke();
 }
 
-// A colour of the style, light or dark, as a canvas takes it.
-/** @param {CSSStyleDeclaration} style @param {string} name */
-function colourOf(style, name) {
-    const probe = made('span');
-    probe.style.color = `var(${name})`;
-    $('blocks').after(probe);
-    const colour = getComputedStyle(probe).color;
-    probe.remove();
-    return colour;
+// The colours of the style, light or dark, as a canvas takes them. The style is worked out once for all of them.
+function coloursNow() {
+    const probes = COLOURS.map(it => { const probe = made('span'); probe.style.color = `var(--${it})`; return probe; }), box = made('span', {}, ...probes);
+    $('blocks').after(box);
+    const colours = Object.fromEntries(COLOURS.map((it, k) => [it, getComputedStyle(probes[k]).color]));
+    box.remove();
+    return colours;
 }
