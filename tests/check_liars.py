@@ -43,7 +43,7 @@ INNER = {"tests/page/run_sessions.py": "tests/page/check_page.sh", "tests/page/l
 # The commands without which the tests of the page are left out, as tests/page/check_page.sh does.
 BROWSES = ("node", "chromium")
 # The seconds that a check has for a liar, and those that a liar has for a command: one that may have no end, one in a page, one whose lie is named.
-SECONDS, PATIENCE, OF_PAGES, OF_NAMED = 240, 3, 20, 60
+SECONDS, PATIENCE, OF_PAGES, OF_NAMED = 240, 3, 20, 120
 # Half of those that are tried at once wait for a program that never ends.
 LANES = 2 * len(os.sched_getaffinity(0))
 
