@@ -1,7 +1,5 @@
 // Runs of the program pdp8, each in a worker. The words of a run that are names of files in the page are these files.
 const latin1 = new TextDecoder('latin1'), utf8 = new TextEncoder();
-// How many workers wait for a run.
-const SPARE = 2;
 const WAITING = 1 << 16, LENIENT = ['check', 'get', 'index'];
 
 /** @param {string | Uint8Array} it */
@@ -30,8 +28,8 @@ export class Programs extends EventTarget {
     #last = Promise.resolve();
     /** @type {Run | undefined} */
     asked = undefined;
-    /** @type {Worker[]} */
-    #spare = [];
+    /** @type {Worker | null} */
+    #spare = null;
     /** @type {string[]} */
     #busy = [];
     #asked = 0;
@@ -116,23 +114,13 @@ export class Programs extends EventTarget {
         return new Run(this, words, { ...how, input: null, ended: status => { over(); how.ended?.(status); } });
     }
 
-    // A worker for a run: one whose run has ended, or a new one. One is begun ahead, since that takes some time, once the handler has ended.
+    // Workers are begun ahead, since that takes some time.
     worker() {
-        const own = this.#spare.pop() ?? newWorker();
-        if (!this.#spare.length) setTimeout(() => this.#spare.length || this.#spare.push(newWorker()));
+        const own = this.#spare ?? new Worker('worker.js', { type: 'module' });
+        this.#spare = new Worker('worker.js', { type: 'module' });
         return own;
     }
-
-    // Takes the worker of a run that has ended for a further run, unless there are enough.
-    /** @param {Worker} worker */
-    giveBack(worker) {
-        worker.onmessage = worker.onerror = null;
-        if (this.#spare.length < SPARE) this.#spare.push(worker);
-        else worker.terminate();
-    }
 }
-
-function newWorker() { return new Worker('worker.js', { type: 'module' }); }
 
 // One run. `heard` and `said` take what it writes to standard output and to standard error, `ended` its status, null where it was stopped. `room` is
 // how many bytes it may be ahead of what `show` was given, none for no limit. `patience` is after how many milliseconds a read gives nothing. `again`
@@ -186,8 +174,7 @@ export class Run {
     #end(status, failed = null) {
         if (!this.isLive) return;
         this.isLive = false;
-        if (status === null) this.worker.terminate();
-        else this.programs.giveBack(this.worker);
+        this.worker.terminate();
         this.holds.forEach(it => this.programs.held.delete(it));
         if (failed) this.how.said?.(bytesOf(`${failed}\n`));
         this.how.ended?.(status);

@@ -247,7 +247,7 @@ await run('panel', {
         await page.until(`document.getElementById('rate').textContent.includes('steps a second')`);
         await shows('0214 5214');
         await page.click('#key-stop');
-        await isTold(page, 'machine-status', 'stopped by the key: 1 step: the next instruction is at 00214');
+        await isTold(page, 'machine-status', 'stopped by the key: the next instruction is at 00214');
         await shows('0214 5214');
         await page.fill('#switches-shown', '0215');
         await page.key('Tab');
