@@ -125,25 +125,30 @@ abbrev pub Lays : Result Unit HostFault → List ℕ → List Step → List Step
 Lays (Ok _) bytes old new = (start : Place) → (replay start new).seen ≡ Just (Some bytes)
 Lays (Err fault) bytes old new = (start : Place) → IsUnmade new (replay start old) (replay start new)
 
-abbrev pub is_claim : Change → Bool → Bool
-is_claim Claim true = true
-is_claim Claim false = false
-is_claim _ ok = false
+abbrev pub with_claim : Change → Bool → Bool → Bool
+with_claim Claim ok before = ok
+with_claim Rename true before = false
+with_claim Rename false before = before
+with_claim _ ok before = false
 
--- the newest change is that of an empty file that took the path
+-- the path has an empty file that took it, and no file has taken its place
 abbrev pub has_claim : List Step → Bool
 has_claim [] = false
-has_claim (s ∷ earlier) = is_claim s.change s.ok
+has_claim (s ∷ earlier) = with_claim s.change s.ok (has_claim earlier)
+
+abbrev pub unless : Bool → ℕ → ℕ
+unless true before = before
+unless false before = before + 1
 
 abbrev pub with_replacement : Change → Bool → Bool → ℕ → ℕ
-with_replacement Rename true false before = before + 1
-with_replacement Rename true true before = before
+with_replacement Rename true is before = unless is before
 with_replacement Rename false is before = before
+with_replacement DropClaim ok is before = unless is before
 with_replacement WriteOver ok is before = before + 1
 with_replacement _ ok is before = before
 
--- How often a file took the path where another may have had it, or was to be written over in its place. A rename takes it so, unless an empty
--- file has just taken the path as one that no file had.
+-- How often the path's file may have been another's, and a file took its place, or it was to be written over there, or to be taken away. It
+-- is no other's where an empty file has just taken the path as one that no file had.
 abbrev pub replacements : List Step → ℕ
 replacements [] = 0
 replacements (s ∷ earlier) = with_replacement s.change s.ok (has_claim earlier) (replacements earlier)

@@ -1,9 +1,9 @@
-ghost use Rattle.std.specs.Prelude.{◌≡◌, ◌<◌, ◌⊎◌, ℕ, List, [], ◌∷◌, true, false, IfErr, OnErr, OnOk};
+ghost use Rattle.std.specs.Prelude.{◌≡◌, ◌<◌, ◌≤◌, ◌+◌, ◌⊎◌, ℕ, List, [], ◌∷◌, true, false, IfErr, OnErr, OnOk};
 ghost use Rattle.std.specs.Str.{bytes_eq};
 ghost use Rattle.hosts.specs.Event.{there_call};
 ghost use Rattle.hosts.specs.Faults.{fault_number};
 ghost use Rattle.hosts.specs.Place.{about};
-ghost use Rattle.hosts.specs.Saving.{Lays, replacements};
+ghost use Rattle.hosts.specs.Saving.{Lays, StaysAsItWas, replacements};
 ghost use Rattle.hosts.specs.SavingSteps.{AreDatedCalls, IsQuiet, laid_calls};
 ghost use Rattle.hosts.specs.Streams.{output, errors, read, failures, last_fault};
 ghost use Rattle.hosts.specs.Times.{file_time};
@@ -15,8 +15,9 @@ use crate::{Host, HostFault, LinkFault};
 use std::alloc::Global;
 
 /// Lays a file of these bytes: it is made beside its name, and gets that once it is whole. Where one of the name is there the answer is
-/// `Busy`, unless that is to be replaced. When the bytes come to the disk is left to the system. Where seconds are given it was last changed
-/// so long after the begin of 1970 in UTC, or has the time of its writing where the system can't set that.
+/// `Busy`, unless that is to be replaced. It is replaced once at most, and stays as it was where the new one can't take its place. When the
+/// bytes come to the disk is left to the system. Where seconds are given it was last changed so long after the begin of 1970 in UTC, or has
+/// the time of its writing where the system can't set that.
 pub fn lay<H: Host>(
     host: &mut H,
     alloc: Global,
@@ -26,6 +27,8 @@ pub fn lay<H: Host>(
     replaces: bool,
 ) -> Result<(), HostFault>
     ensures replaced { replaces ≡ false → replacements (about name.now (H.history host.new)) ≡ replacements (about name.now (H.history host.old)) }
+    ensures once { replacements (about name.now (H.history host.new)) ≤ replacements (about name.now (H.history host.old)) + 1 }
+    ensures refused { replaces ≡ true → OnErr result (StaysAsItWas (about name.now (H.history host.old)) (about name.now (H.history host.new))) }
     ensures lays { Lays result bytes.now (about name.now (H.history host.old)) (about name.now (H.history host.new)) }
     ensures time { OnOk result (file_time (about name.now (H.history host.new)) ≡ seconds) }
     ensures cause { OnErr result ((failures (H.history host.old) < failures (H.history host.new))
