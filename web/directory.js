@@ -79,7 +79,7 @@ export class Directory {
         const more = made('button', { 'data-does': 'more', 'aria-label': `${name} more`, 'aria-haspopup': 'menu', 'aria-expanded': 'false' }, 'More');
         const row = made('tr', { 'data-name': name, 'data-first': first }, made('td', {}, this.chosen.box(it)), made('td', {}, button(name, 'show', 'in its best form')),
             made('td', { class: 'n' }, String(length)), made('td', { class: 'n' }, String(first)), made('td', { class: 'date' }, it.date ?? ''), made('td', { class: 'kind' }, it.kind ?? ''),
-            made('td', {}, button('Save', 'save', 'home'), ' ', button('Edit', 'edit', 'in Source'), ' ', more));
+            made('td', {}, button('Save', 'save', 'save'), ' ', button('Edit', 'edit', 'edit in Source'), ' ', more));
         row.classList.toggle('chosen', shown.entry?.name === name);
         return row;
     }
@@ -100,14 +100,12 @@ export class Directory {
     /** @param {Entry} it */
     #items(it) {
         const { shown } = this.page.files;
-        /** @param {string} text @param {string} label @param {() => void} what */
-        const item = (text, label, what) => ({ text, label: `${it.name} ${label}`, what });
-        const shows = [item('Show as a text', 'as a text', () => shown.show(it, 'text')), item('Show the listing of its tape', 'as the listing of a tape', () => shown.show(it, 'tape')),
-            item('Show as source', 'as the source of a tape', () => shown.show(it, 'source')), item('Show its words', 'as words', () => shown.show(it, 'words')),
-            item('Open in Source as PAL8', 'in Source as PAL8', () => shown.editProgram(it, 'PAL8'))];
-        const saves = [item('Save as a text', 'home as a text', () => shown.home(it, 'text')), item('Save as a tape', 'home as a tape', () => shown.home(it, 'tape')),
-            item('Save as frames', 'home as frames', () => shown.home(it, 'frames'))];
-        const changes = [item('Rename', 'rename', () => this.#rename(it)), item('Copy to another volume', 'copy', () => this.chosen.copy([it])), item('Delete', 'delete', () => this.chosen.delete([it]))];
+        /** @param {string} text @param {() => void} what */
+        const item = (text, what) => ({ text, label: `${it.name} ${text[0].toLowerCase()}${text.slice(1)}`, what });
+        const shows = [item('Show as a text', () => shown.show(it, 'text')), item('Show the listing of its tape', () => shown.show(it, 'tape')), item('Show as source', () => shown.show(it, 'source')),
+            item('Show its words', () => shown.show(it, 'words')), item('Open in Source as PAL8', () => shown.editProgram(it, 'PAL8'))];
+        const saves = [item('Save as a text', () => shown.home(it, 'text')), item('Save as a tape', () => shown.home(it, 'tape')), item('Save as frames', () => shown.home(it, 'frames'))];
+        const changes = [item('Rename', () => this.#rename(it)), item('Copy to another volume', () => this.chosen.copy([it])), item('Delete', () => this.chosen.delete([it]))];
         return [...shows, ...saves, ...(it.isByBlocks ? [] : changes)];
     }
 

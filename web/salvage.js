@@ -71,10 +71,10 @@ export class Salvage {
         /** @param {string} text @param {string} label @param {() => void} what */
         const button = (text, label, what) => made('button', { onclick: what, 'aria-label': label }, text);
         if (kind === 'TEXT')
-            return made('li', {}, `${blocks}: `, button(words || 'a text', `the text of ${blocks}`, () => files.shown.show(entry, 'text')), ' ', button('Save', `the text of ${blocks} home`, () => this.#home(entry, '--text')));
+            return made('li', {}, `${blocks}: `, button(words || 'a text', `the text of ${blocks}`, () => files.shown.show(entry, 'text')), ' ', button('Save', `save the text of ${blocks}`, () => this.#home(entry, '--text')));
         if (kind === 'DIR') return made('li', {}, `${blocks}: `, button(WHAT.DIR, `the directory of ${blocks}`, () => { $('dump-box').open = $('sixbit').checked = true; files.dump.show(first); }));
-        return made('li', {}, `${blocks}: `, button(WHAT[kind] ?? kind, `the program of ${blocks}`, () => files.shown.show(entry, 'source')), ' ', button('Save', `the program of ${blocks} home`, () => this.#home(entry)),
-            ' ', button('To the machine', `the program of ${blocks} in the machine`, () => { tabs.show('machine'); loadFile(this.page, entry); }));
+        return made('li', {}, `${blocks}: `, button(WHAT[kind] ?? kind, `the program of ${blocks}`, () => files.shown.show(entry, 'source')), ' ', button('Save', `save the program of ${blocks}`, () => this.#home(entry)),
+            ' ', button('To the machine', `the program of ${blocks} to the machine`, () => { tabs.show('machine'); loadFile(this.page, entry); }));
     }
 
     // Saves the blocks of a piece, as frames or, with `--text`, as a text.

@@ -116,14 +116,14 @@ await run('archives', {
         await opens(page, 'TAPE.DT8', 'TAPE.DT8 DECtape');
         same('T.TX 1 7 1974-03-12 text', await known(page), 'its directory');
         holds((await page.look(`document.getElementById('blocks').getAttribute('aria-label')`)).includes('737 blocks: 1 files'), 'the picture');
-        await page.click('button[aria-label="T.TX copy"]');
+        await page.click('button[aria-label="T.TX copy to another volume"]');
         await answer(page, 'Copy T.TX to which volume?', 1);
         await isTold(page, 'files-status', 'DISK.RK05, volume 2: STORED T.TX 1');
         native(['copy', 'TAPE.DT8', 'T.TX', 'DISK.RK05', '--dectape', '--to-volume', '2']);
         await page.choose('#volume', 'DISK.RK05 2');
         await page.until(`!!document.querySelector('tr[data-name="ADD.BN"]')`);
         await comesTo(page, readFileSync(file('DISK.RK05')), 'the disk');
-        await page.click('button[aria-label="ADD.BN copy"]');
+        await page.click('button[aria-label="ADD.BN copy to another volume"]');
         await answer(page, 'Copy ADD.BN to which volume?', 1);
         await isTold(page, 'files-status', 'TAPE.DT8, a DECtape: STORED ADD.BN 1');
         native(['copy', 'DISK.RK05', 'ADD.BN', 'TAPE.DT8', '--volume', '2', '--to-dectape']);
@@ -245,7 +245,7 @@ await run('archives', {
         await page.until(`geivottu.files.blocks.all[9].of === 'a text: THE LAST'`);
         same('file', await page.look(`geivottu.files.blocks.all[7].kind`), 'a file in the picture');
         same('found', await page.look(`geivottu.files.blocks.all[9].kind`), 'a text in the picture');
-        same('THE LAST\n', (await page.home('button[aria-label="the text of block 9 home"]')).bytes.toString(), 'the text that went home');
+        same('THE LAST\n', (await page.home('button[aria-label="save the text of block 9"]')).bytes.toString(), 'the text that went home');
         await page.click('button[aria-label="the text of block 9"]');
         await isTold(page, 'shown', 'THE LAST');
         await page.click('#rescue');
@@ -275,7 +275,7 @@ await run('archives', {
         same(plain(native(['rescue', 'X', 'R'])), await page.text('rescued'), 'the lines of rescue');
         await isTold(page, 'files-status', 'TWICE 8 3');
         same('AB, which a rescue leaves out', await page.look(`geivottu.files.blocks.all[11].of`), 'what is left out');
-        same(native(['get', 'X', '--blocks', '8', '4']), (await page.home('button[aria-label="AB home as frames"]')).bytes, 'its frames');
+        same(native(['get', 'X', '--blocks', '8', '4']), (await page.home('button[aria-label="AB save as frames"]')).bytes, 'its frames');
     },
 });
 

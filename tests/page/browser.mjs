@@ -54,7 +54,7 @@ export function chromium() {
 
 // The file in whose menu an item is, by the item's name: one of those that the row doesn't have.
 /** @param {string} selector */
-export const ofMenu = selector => /^button\[aria-label="(\S+) (?:as|home as|in Source as|rename|copy|delete)\b/.exec(selector)?.[1] ?? null;
+export const ofMenu = selector => /^button\[aria-label="(\S+) (?:show as|show the|show its|open in|save as|rename|copy|delete)\b/.exec(selector)?.[1] ?? null;
 
 export class Browser {
     #last = 0;

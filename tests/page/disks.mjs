@@ -76,7 +76,7 @@ await run('disks', {
         await page.go(url);
         laid('V', { 'ADD.BN': ADD });
         await opens(page, 'V');
-        await page.click('button[aria-label="ADD.BN as the source of a tape"]');
+        await page.click('button[aria-label="ADD.BN show as source"]');
         await page.until(`document.getElementById('starts').checkVisibility()`);
         await page.fill('#starts', '00200');
         await page.fill('#cell-names', '00200 BEGIN\n00203 SEVEN');
@@ -92,7 +92,7 @@ await run('disks', {
         await page.key('Tab');
         await page.look('geivottu.store.settled()');
         await page.go(`${url}?again`);
-        await page.click('button[aria-label="ADD.BN as the source of a tape"]');
+        await page.click('button[aria-label="ADD.BN show as source"]');
         await page.until(`document.getElementById('shown').textContent === ${JSON.stringify(wanted)}`);
         await page.click('#shown-trace');
         await isShown(page, 'ADD.BN, trace');
@@ -109,14 +109,14 @@ await run('disks', {
         await page.go(url);
         laid('V', { 'ADD.BN': ADD });
         await opens(page, 'V');
-        await page.click('button[aria-label="ADD.BN as the source of a tape"]');
+        await page.click('button[aria-label="ADD.BN show as source"]');
         await page.fill('#starts', '00200');
         await page.key('Tab');
         await page.until(`document.getElementById('shown').textContent.includes('/ FROM 00201')`);
         await page.give('#image', file('V'));
         await answer(page, 'There is a volume V', 1);
         await page.until(`document.getElementById('shown-name').textContent === 'No file is shown'`);
-        await page.click('button[aria-label="ADD.BN as the source of a tape"]');
+        await page.click('button[aria-label="ADD.BN show as source"]');
         await isShown(page, 'ADD.BN, source');
         same('', await page.look(`document.getElementById('starts').value`), 'the starts');
     },
@@ -179,14 +179,14 @@ await run('disks', {
         same('ADD.BN 1 8; H.TX 1 7', rows, 'the rows');
         same('H.TX', await page.look(`geivottu.files.blocks.all[7].of`), 'the picture');
         same('fault', await page.look(`geivottu.files.blocks.all[1].kind`), 'the directory in the picture');
-        const { bytes } = await page.home('button[aria-label="H.TX home as a text"]');
+        const { bytes } = await page.home('button[aria-label="H.TX save as a text"]');
         same('HELLO\n', bytes.toString(), 'the text');
-        same(native(['get', 'V', '--blocks', '8', '1']), (await page.home('button[aria-label="ADD.BN home as frames"]')).bytes, 'the frames');
+        same(native(['get', 'V', '--blocks', '8', '1']), (await page.home('button[aria-label="ADD.BN save as frames"]')).bytes, 'the frames');
         await page.click('button[aria-label="ADD.BN in its best form"]');
         await isShown(page, 'ADD.BN, source');
         same(plain(native(['source'], ADD)), await shown(page), 'the source');
         await page.click('button[aria-label="H.TX more"]');
-        await page.until(`!!document.querySelector('#menu button[aria-label="H.TX home as a text"]')`);
+        await page.until(`!!document.querySelector('#menu button[aria-label="H.TX save as a text"]')`);
         holds(!await page.look(`!!document.querySelector('button[aria-label="H.TX delete"]')`), 'a file can be deleted');
     },
     'no kind of a block, and no state, is told by colour alone': async (page, url) => {
@@ -230,7 +230,7 @@ await run('disks', {
         await page.until(`!!document.querySelector('tr[data-name="HI_41.TX"]')`);
         await page.click('button[aria-label="HI_41.TX in its best form"]');
         await isTold(page, 'shown', 'HELLO');
-        same('HI_41.TX', (await page.home('button[aria-label="HI_41.TX home as a text"]')).name, 'its name at home');
+        same('HI_41.TX', (await page.home('button[aria-label="HI_41.TX save as a text"]')).name, 'its name at home');
         await page.click('button[aria-label="HI_41.TX delete"]');
         await isTold(page, 'files-status', 'DELETED HI_41.TX');
         native(['delete', 'V', '--at', '7']);

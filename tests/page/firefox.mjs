@@ -168,7 +168,7 @@ const tests = {
         await fox.isTold('files-status', 'STORED NOTE.TX');
         native(['put', 'DISK', 'note.tx', '--text']);
         same(readFileSync(file('DISK')), (await fox.home('#take-image')).bytes, 'the image');
-        same(native(['get', 'DISK', 'NOTE.TX', '--text']), (await fox.home('button[aria-label="NOTE.TX home as a text"]')).bytes, 'the text');
+        same(native(['get', 'DISK', 'NOTE.TX', '--text']), (await fox.home('button[aria-label="NOTE.TX save as a text"]')).bytes, 'the text');
         await fox.click('button[aria-label="NOTE.TX delete"]');
         await fox.isTold('files-status', 'DELETED');
         await fox.click('#undo');

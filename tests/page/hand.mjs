@@ -188,7 +188,7 @@ await run('hand', {
         await page.click('#undo');
         await isTold(page, 'script-status', 'Undone: the script');
         await pane(page, 'files');
-        await page.click('button[aria-label="HELLO.PA as a text"]');
+        await page.click('button[aria-label="HELLO.PA show as a text"]');
         await isTold(page, 'shown', 'mine');
     },
 });

@@ -73,14 +73,14 @@ await run('offers', {
         await page.click(more);
         await page.click(more);
         same(true, await page.look(`document.getElementById('menu').hidden`), 'the menu after a second press of its button');
-        same('ONE\n', (await page.home('button[aria-label="ONE.TX home"]')).bytes.toString(), 'what Save gives');
+        same('ONE\n', (await page.home('button[aria-label="ONE.TX save"]')).bytes.toString(), 'what Save gives');
     },
     'a file is saved in its own form': async (page, url) => {
         await page.go(url);
         laid('V', { 'ONE.TX': 'ONE\n', 'ADD.BN': ADD, 'ODD.DA': Buffer.from([1, 2, 3, 250, 251, 252]) });
         await opens(page, 'V', 'ODD.DA');
         for (const [name, ...how] of [['ONE.TX', '--text'], ['ADD.BN', '--tape'], ['ODD.DA']])
-            same(native(['get', 'V', name, ...how]), (await page.home(`button[aria-label="${name} home"]`)).bytes, name);
+            same(native(['get', 'V', name, ...how]), (await page.home(`button[aria-label="${name} save"]`)).bytes, name);
     },
     'a file is renamed, and Undo brings its name back': async (page, url) => {
         await page.go(url);
@@ -163,7 +163,7 @@ await run('offers', {
         await page.go(url);
         laid('V', { 'NOTE.TX': 'ONE\nTWO\n', 'OTHER.TX': 'OTHER\n' });
         await opens(page, 'V', 'NOTE.TX');
-        await page.click('button[aria-label="NOTE.TX in Source"]');
+        await page.click('button[aria-label="NOTE.TX edit in Source"]');
         await page.until(`!document.getElementById('source').hidden && document.getElementById('text').value === 'ONE\\nTWO\\n'`);
         same('NOTE', await page.look(`document.getElementById('source-name').value`), 'its name');
         await page.fill('#text', 'ONE\nTHREE\n');
@@ -201,12 +201,12 @@ await run('offers', {
         await page.go(url);
         laid('V', { 'ADD.BN': ADD });
         await opens(page, 'V', 'ADD.BN');
-        await page.click('button[aria-label="ADD.BN in Source"]');
+        await page.click('button[aria-label="ADD.BN edit in Source"]');
         await page.until(`document.getElementById('text').value === ${JSON.stringify(plain(native(['source'], ADD)))}`);
         same('PAL III true', await page.look(`document.getElementById('dialect').value + ' ' + document.getElementById('text-back').disabled`), 'its dialect, and that it is no file');
         await page.click('#text-drop');
         await pane(page, 'files');
-        await page.click('button[aria-label="ADD.BN in Source as PAL8"]');
+        await page.click('button[aria-label="ADD.BN open in Source as PAL8"]');
         await page.until(`document.getElementById('text').value === ${JSON.stringify(plain(native(['source', '--pal8'], ADD)))}`);
         same('PAL8', await page.look(`document.getElementById('dialect').value`), 'its dialect');
         await page.click('#assemble');
@@ -370,8 +370,8 @@ await run('offers', {
         same(wanted.length, await page.look(`document.querySelectorAll('#texts-list li').length`), 'the lines');
         for (const it of wanted.filter(it => /^(BIN|RIM|CORE)/.test(it))) {
             const [kind, first, length] = it.split(' '), where = length === '1' ? `block ${first}` : `blocks ${first} to ${Number(first) + Number(length) - 1}`;
-            same(native(['get', 'V', '--blocks', first, length]), (await page.home(`button[aria-label="the program of ${where} home"]`)).bytes, `${kind} at home`);
-            await page.click(`button[aria-label="the program of ${where} in the machine"]`);
+            same(native(['get', 'V', '--blocks', first, length]), (await page.home(`button[aria-label="save the program of ${where}"]`)).bytes, `${kind} at home`);
+            await page.click(`button[aria-label="the program of ${where} to the machine"]`);
             await isTold(page, 'machine-status', `at-${first}: `);
             await isTold(page, 'machine-status', kind === 'CORE' ? 'START begins at 00401' : 'START begins at 00200');
             await page.click('#key-start');

@@ -370,6 +370,6 @@ await run('shelf', {
         same('Name', await page.look(`document.activeElement.textContent`), 'the head');
         for (let k = 0; k < 2; k++) await page.key('ArrowDown');
         await page.key('ArrowRight');
-        same('GUESS.PA home', await page.look(`document.activeElement.getAttribute('aria-label')`), 'the button');
+        same('GUESS.PA save', await page.look(`document.activeElement.getAttribute('aria-label')`), 'the button');
     },
 });
