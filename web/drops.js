@@ -32,15 +32,24 @@ export class Drops {
     // Takes the file that was chosen by a pane's own button. What that is for opens at once, and any other as what it is.
     /** @param {HTMLInputElement} input @param {'files' | 'source' | 'teletype'} pane */
     async chosen(input, pane) {
-        const [file] = input.files ?? [], { files, source, teletype } = this.page;
+        const [file] = input.files ?? [], { source, teletype } = this.page;
         input.value = '';
         const bytes = file && await this.#bytesOf(file), isShort = bytes && bytes.length <= MOST;
         if (!bytes) return;
+        if (pane === 'files') return this.#opened(file, bytes);
         if (pane === 'source' && isShort && isText(bytes)) return source.take(file.name, bytes);
-        const tape = pane !== 'source' && isShort && bytes.length ? await tapeOf(this.page, bytes) : null, isTape = tape?.status === 0;
-        if (isTape && pane === 'teletype') return teletype.take(file.name, bytes);
-        if (pane !== 'files') return this.#takeOne(file, true);
-        return isTape && !isVolume(await kindOf(this.page, bytes)) ? this.#tape(file, bytes, tape.out) : files.take(file);
+        const tape = pane === 'teletype' && isShort && bytes.length ? await tapeOf(this.page, bytes) : null;
+        return tape?.status === 0 ? teletype.take(file.name, bytes) : this.#takeOne(file, true);
+    }
+
+    // Takes the file that was chosen as an image.
+    /** @param {File} file @param {Uint8Array} bytes */
+    async #opened(file, bytes) {
+        const { files } = this.page, asked = bytes.length > MOST ? undefined : await kindOf(this.page, bytes);
+        if (!asked || !bytes.length || isVolume(asked)) return files.take(file, asked);
+        const tape = await tapeOf(this.page, bytes);
+        if (tape.status === 0) return this.#tape(file, bytes, tape.out);
+        return isText(bytes) ? this.#text(file, bytes) : files.take(file, asked);
     }
 
     // The bytes of a file, null for a folder and for what can't be read.
@@ -60,7 +69,7 @@ export class Drops {
         const { files, source, tabs } = this.page, isHere = files.name !== '' && !$('files').hidden, bytes = await this.#bytesOf(file);
         if (!bytes) return;
         const asked = await kindOf(this.page, bytes.length > MOST ? new Uint8Array(0) : bytes);
-        if (bytes.length > MOST || isVolume(asked)) return files.take(file);
+        if (bytes.length > MOST || isVolume(asked)) return files.take(file, bytes.length > MOST ? undefined : asked);
         if (isHere && !isAlone) return files.putFiles([file]);
         const tape = bytes.length ? await tapeOf(this.page, bytes) : null;
         if (tape?.status === 0) return this.#tape(file, bytes, tape.out);
@@ -78,6 +87,16 @@ export class Drops {
         if (answer === 'files') await files.putFiles([file]);
         if (answer === 'teletype') await teletype.take(file.name, bytes);
         if (answer === 'machine' && await machine.load(tape, file.name)) tabs.show('machine');
+    }
+
+    // Asks what to do with a text that was chosen as an image.
+    /** @param {File} file @param {Uint8Array} bytes */
+    async #text(file, bytes) {
+        const { files, source, tabs, say } = this.page, further = files.name === '' ? [] : [['files', `Put it into ${titleOf(files.name)}`]];
+        const answer = await ask(`${file.name} is a text, and no image.`, ['text', 'Open it in Source'], ...further, ['', 'Leave it']);
+        if (answer === 'files') await files.putFiles([file]);
+        if (answer === '') say(`${file.name} was not opened: it is a text, and no image.`, true);
+        if (answer === 'text' && await source.take(file.name, bytes)) tabs.show('source');
     }
 
     // Asks what to do with what is no image, no tape, and plainly no text. Whether it is open as a text then.

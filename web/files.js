@@ -194,10 +194,11 @@ export class Files {
     /** @param {string} name */
     #mark(name) { return this.page.store.isUnkept(fileOf(name)) ? `${titleOf(name)}, not kept` : titleOf(name); }
 
-    // Takes a file of the host as an image into the page, of whatever kind. One that can't be an image of a volume is not kept.
-    /** @param {File} file */
-    async take(file) {
-        const bytes = await bytesOfFile(file), asked = await kindOf(this.page, bytes);
+    // Takes a file of the host as an image into the page, of whatever kind. What it is may be `known` already. One that can't be an image of a
+    // volume is not kept.
+    /** @param {File} file @param {Awaited<ReturnType<typeof kindOf>>} [known] */
+    async take(file, known) {
+        const bytes = await bytesOfFile(file), asked = known ?? await kindOf(this.page, bytes);
         if (!isVolume(asked)) return this.page.say(`${file.name}: ${asked.refusal}\n${asked.said}`, true);
         const name = await this.#name(file.name);
         if (name === null || !await this.#keep(name, bytes, asked.kind)) return;

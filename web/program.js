@@ -1,5 +1,7 @@
 // Runs of the program pdp8, each in a worker. The words of a run that are names of files in the page are these files.
 const latin1 = new TextDecoder('latin1'), utf8 = new TextEncoder();
+// How many workers are begun ahead.
+const SPARES = 3;
 const WAITING = 1 << 16, LENIENT = ['check', 'get', 'index'];
 
 /** @param {string | Uint8Array} it */
@@ -20,16 +22,18 @@ export const hasWideMemory = WebAssembly.validate(new Uint8Array([0, 97, 115, 10
 export async function load(url) {
     const answer = await fetch(url);
     if (!answer.ok) throw new Error(`${url}: ${answer.status}`);
-    return WebAssembly.compile(await answer.arrayBuffer());
+    // of a stream with its type the browser keeps the quick code that it makes of a module while that runs
+    return answer.headers.get('content-type') === 'application/wasm' ? WebAssembly.compileStreaming(answer) : WebAssembly.compile(await answer.arrayBuffer());
 }
 
 export class Programs extends EventTarget {
     /** @type {Promise<unknown>} */
     #last = Promise.resolve();
-    /** @type {Run | undefined} */
-    asked = undefined;
-    /** @type {Worker | null} */
-    #spare = null;
+    // The whole runs that go on.
+    /** @type {Set<Run>} */
+    #runs = new Set();
+    /** @type {Worker[]} */
+    #spares = [];
     /** @type {string[]} */
     #busy = [];
     #asked = 0;
@@ -71,27 +75,44 @@ export class Programs extends EventTarget {
     #leniently(words) { return LENIENT.includes(words[0]) && words.some(it => this.store.notes.get(`lenient ${it}`)) ? [...words, '--lenient'] : words; }
 
     // A whole run, after those that were asked for before: its exit status, and what it wrote to each stream.
-    /** @param {string[]} asked @param {string | Uint8Array} [input] @returns {Promise<Answer>} */
-    ask(asked, input = '') {
-        const words = this.#leniently(asked);
-        const answer = this.#last.then(() => this.store.claims.known()).then(() => /** @type {Promise<Answer>} */ (new Promise(go => {
-            /** @type {Uint8Array[]} */
-            const out = [];
-            /** @type {Uint8Array[]} */
-            const said = [];
-            const run = new Run(this, words, {
-                input: bytesOf(input),
-                heard: it => out.push(it),
-                said: it => said.push(it),
-                ended: status => go({ status, out: joined(out), said: textOf(joined(said)) }),
-            });
-            this.asked = run;
-        })));
+    /** @param {string[]} words @param {string | Uint8Array} [input] @returns {Promise<Answer>} */
+    ask(words, input = '') {
+        const answer = this.#after(this.#last, words, input);
         this.#last = answer;
+        return answer;
+    }
+
+    // Whole runs that only look, side by side, after those that were asked for before.
+    /** @param {...string[]} all */
+    looks(...all) {
+        const before = this.#last, answers = Promise.all(all.map(it => this.#after(before, it, '')));
+        this.#last = answers;
+        return answers;
+    }
+
+    /** @param {Promise<unknown>} before @param {string[]} asked @param {string | Uint8Array} input @returns {Promise<Answer>} */
+    #after(before, asked, input) {
+        const words = this.#leniently(asked), answer = before.then(() => this.store.claims.known()).then(() => this.#whole(words, bytesOf(input)));
         this.#works(1);
         answer.then(() => this.#works(-1));
         this.#count(words, answer);
         return answer;
+    }
+
+    /** @param {string[]} words @param {Uint8Array} input @returns {Promise<Answer>} */
+    #whole(words, input) {
+        return new Promise(go => {
+            /** @type {Uint8Array[]} */
+            const out = [];
+            /** @type {Uint8Array[]} */
+            const said = [];
+            const ended = (/** @type {number | null} */ status) => {
+                this.#runs.delete(run);
+                go({ status, out: joined(out), said: textOf(joined(said)) });
+            };
+            const run = new Run(this, words, { input, heard: it => out.push(it), said: it => said.push(it), ended });
+            this.#runs.add(run);
+        });
     }
 
     // Has the page show that it works, while whole runs go on.
@@ -101,8 +122,8 @@ export class Programs extends EventTarget {
         document.body.classList.toggle('works', this.isAsked);
     }
 
-    // Ends the whole run that is going on.
-    stop() { this.asked?.stop(); }
+    // Ends the whole runs that are going on.
+    stop() { for (const it of [...this.#runs]) it.stop(); }
 
     // A run that lives until its input is ended, or it is stopped.
     /** @param {string[]} words @param {How} how */
@@ -116,9 +137,8 @@ export class Programs extends EventTarget {
 
     // Workers are begun ahead, since that takes some time.
     worker() {
-        const own = this.#spare ?? new Worker('worker.js', { type: 'module' });
-        this.#spare = new Worker('worker.js', { type: 'module' });
-        return own;
+        while (this.#spares.length <= SPARES) this.#spares.push(new Worker('worker.js', { type: 'module' }));
+        return /** @type {Worker} */ (this.#spares.shift());
     }
 }
 

@@ -77,31 +77,23 @@ export async function kindOf(page, bytes) {
 // nothing is asked for in each way that its length leaves.
 /** @param {Page} page @param {Uint8Array} bytes @param {string[]} how @returns {Promise<Asked & { kind: Kind }>} */
 async function judged({ programs, store }, bytes, how) {
-    const name = `.kind-${++last}`;
-    /** @param {...string} words @returns {Promise<Asked>} */
-    const asked = async (...words) => {
-        const { status, out, said } = await programs.ask(['check', name, ...how, ...words]);
-        return { refusal: status === 0 ? null : textOf(out).trim(), said: said.replaceAll(name, 'the file') };
-    };
+    const name = `.kind-${++last}`, tape = [['check', name, ...how, '--dectape']];
+    const disk = [['index', name, ...how.slice(0, 1)], ...['1', '2'].map(it => ['check', name, ...how, '--volume', it])];
     const kind = how.length > 1 ? '' : bytes.length === TAPE ? 'DECtape' : bytes.length > DISK_BLOCKS * BLOCK && bytes.length <= 2 * DISK_BLOCKS * BLOCK ? 'disk' : '';
+    /** @param {Answer} answer @returns {Asked} */
+    const asked = ({ status, out, said }) => ({ refusal: status === 0 ? null : textOf(out).trim(), said: said.replaceAll(name, 'the file') });
     store.put(name, bytes);
     try {
-        const plain = await asked();
-        const begun = kind === '' && plain.refusal?.startsWith('? DIRECTORY 4') ? await asked('--volume', '1') : plain;
-        if (kind === '') return begun !== plain && begun.refusal === null ? { kind: 'begun', ...begun } : { kind, ...plain };
-        const isTold = kind === 'disk' && /^\.kind-\d+(?: |\t)[12](?:: |\t)/m.test(await indexOf(programs, name, how.slice(0, 1)));
-        const parts = kind === 'disk' ? [await asked('--volume', '1'), await asked('--volume', '2')] : [await asked('--dectape')];
-        const part = parts.find(it => it.refusal === null) ?? parts.find(isVolume);
+        const [whole, ...others] = await programs.looks(['check', name, ...how], ...(kind === 'disk' ? disk : kind === 'DECtape' ? tape : [])), plain = asked(whole);
+        if (kind === '') {
+            const begun = plain.refusal?.startsWith('? DIRECTORY 4') ? asked(await programs.ask(['check', name, ...how, '--volume', '1'])) : plain;
+            return begun !== plain && begun.refusal === null ? { kind: 'begun', ...begun } : { kind, ...plain };
+        }
+        const index = kind === 'disk' ? others.shift() : undefined, isTold = index !== undefined && /^\.kind-\d+(?: |\t)[12](?:: |\t)/m.test(textOf(index.out) + index.said);
+        const parts = others.map(asked), part = parts.find(it => it.refusal === null) ?? parts.find(isVolume);
         const isTape = kind === 'DECtape' && part?.refusal === null;
         return part && (isTold || isTape || !isVolume(plain)) ? { kind, ...part } : { kind: '', ...plain };
     } finally {
         store.remove(name);
     }
-}
-
-// All that `index` says of an image.
-/** @param {Page['programs']} programs @param {string} name @param {string[]} how */
-async function indexOf(programs, name, how) {
-    const { out, said } = await programs.ask(['index', name, ...how]);
-    return textOf(out) + said;
 }

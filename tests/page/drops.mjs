@@ -49,7 +49,7 @@ await run('drops', {
         holds(!await page.look(`document.getElementById('machine').hidden`), 'the pane is left');
         await pane(page, 'files');
         await isTold(page, 'mended', 'note: BAD: block 20, word 0 is ');
-        await page.click('button[aria-label="ONE.TX as a text"]');
+        await page.click('button[aria-label="ONE.TX show as a text"]');
         await isTold(page, 'shown', 'the first');
         writeFileSync(file('two.tx'), 'the second\n');
         await put(page, 'text', 'two.tx');
@@ -95,7 +95,7 @@ await run('drops', {
         await isTold(page, 'files-status', 'STORED IT.BN');
         await page.drop('#drop', file('it.bn'));
         await answer(page, 'it.bn is a tape', 2);
-        await isTold(page, 'machine-status', 'it.bn: 1 words are in core');
+        await isTold(page, 'machine-status', 'it.bn: 1 word is in core');
         await pane(page, 'script');
         await page.drop('#lines', file('it.bn'));
         await answer(page, 'it.bn is a tape');
@@ -132,6 +132,12 @@ await run('drops', {
         await isTold(page, 'files-status', 'STORED IT.BN');
         await page.give('#image', file('odd.da'));
         await isTold(page, 'files-status', 'odd.da: ? IMAGE');
+        await page.give('#image', file('it.pa'));
+        await answer(page, 'it.pa is a text, and no image', 2);
+        await isTold(page, 'files-status', 'it.pa was not opened: it is a text, and no image.');
+        await page.give('#image', file('it.pa'));
+        await answer(page, 'it.pa is a text, and no image', 1);
+        await isTold(page, 'files-status', 'STORED IT.PA');
         same('V', await page.look(`geivottu.files.images.join()`), 'the images');
     },
     'an image that is dropped on another pane, and one that can\'t be opened, say so there': async (page, url) => {
@@ -278,7 +284,7 @@ await run('drops', {
         writeFileSync(file('one.tx'), 'the first\n');
         await put(page, 'text', 'one.tx');
         await isTold(page, 'files-status', 'STORED ONE.TX');
-        await page.click('button[aria-label="ONE.TX as a text"]');
+        await page.click('button[aria-label="ONE.TX show as a text"]');
         await isTold(page, 'shown', 'the first');
         writeFileSync(file('one.tx'), 'the second\n');
         await put(page, 'text', 'one.tx');

@@ -63,16 +63,16 @@ test('the directory is that of list', async page => {
 test('files are taken home as text, tape and frames, as get gives them', async page => {
     for (const { name, form, words } of [{ name: 'HELLO.PA', form: 'a text', words: ['--text'] }, { name: 'ALL.XY', form: 'frames', words: [] },
         { name: 'ADD.BN', form: 'a tape', words: ['--tape'] }]) {
-        const { bytes } = await page.home(`button[aria-label="${name} home as ${form}"]`);
+        const { bytes } = await page.home(`button[aria-label="${name} save as ${form}"]`);
         same(native(['get', 'DISK', name, ...words]), bytes, name);
     }
-    await page.click('button[aria-label="ALL.XY home as a tape"]');
+    await page.click('button[aria-label="ALL.XY save as a tape"]');
     await isTold(page, 'files-status', '? 6.');
 });
 
 test('a text, a listing and a source are shown', async page => {
-    for (const { name, label, wanted } of [{ name: 'HELLO.PA', label: 'as a text', wanted: ['get', 'DISK', 'HELLO.PA', '--text'] },
-        { name: 'ADD.BN', label: 'as the listing of a tape', wanted: ['tape'] }, { name: 'ADD.BN', label: 'as the source of a tape', wanted: ['source'] }]) {
+    for (const { name, label, wanted } of [{ name: 'HELLO.PA', label: 'show as a text', wanted: ['get', 'DISK', 'HELLO.PA', '--text'] },
+        { name: 'ADD.BN', label: 'show the listing of its tape', wanted: ['tape'] }, { name: 'ADD.BN', label: 'show as source', wanted: ['source'] }]) {
         await page.look(`document.getElementById('shown').textContent = ''`);
         await page.click(`button[aria-label="${name} ${label}"]`);
         await page.until(`document.getElementById('shown').textContent !== ''`);
@@ -105,10 +105,10 @@ test('an image is taken by choice and by a drop', async page => {
 });
 
 test('an image that is none is refused with its line', async page => {
-    writeFileSync(file('none.txt'), 'This is no image.\n');
-    await page.give('#image', file('none.txt'));
-    await isTold(page, 'files-status', 'none.txt: ? IMAGE 1 NOT WHOLE');
-    holds(!await page.look(`[...document.getElementById('volume').options].some(it => it.value === 'none.txt')`), 'it is kept');
+    writeFileSync(file('none.da'), Buffer.from('This is no image.\n\0'));
+    await page.give('#image', file('none.da'));
+    await isTold(page, 'files-status', 'none.da: ? IMAGE 1 NOT WHOLE');
+    holds(!await page.look(`[...document.getElementById('volume').options].some(it => it.value === 'none.da')`), 'it is kept');
 });
 
 test('a fault of a directory is told, and marked in the picture', async page => {

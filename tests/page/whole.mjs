@@ -34,7 +34,7 @@ await run('whole', {
         await isTold(page, 'files-status', 'STORED NOISE.DA');
         native(['put', 'DISK', 'noise.da']);
         same(readFileSync(file('DISK')), await image(page), 'the image');
-        same(native(['get', 'DISK', 'NOISE.DA']), (await page.home('button[aria-label="NOISE.DA home as frames"]')).bytes, 'what goes home');
+        same(native(['get', 'DISK', 'NOISE.DA']), (await page.home('button[aria-label="NOISE.DA save as frames"]')).bytes, 'what goes home');
     },
     'a volume of more than 1 MB is kept over a reload': async (page, url) => {
         await page.go(url);
@@ -66,9 +66,9 @@ await run('whole', {
     },
     'what is no image is refused with its line, and not kept': async (page, url) => {
         await page.go(url);
-        writeFileSync(file('none.txt'), 'This is no image.\n');
-        await page.give('#image', file('none.txt'));
-        await isTold(page, 'files-status', 'none.txt: ? IMAGE 1 NOT WHOLE');
+        writeFileSync(file('none.da'), Buffer.from('This is no image.\n\0'));
+        await page.give('#image', file('none.da'));
+        await isTold(page, 'files-status', 'none.da: ? IMAGE 1 NOT WHOLE');
         same('', await page.look(volumes), 'the volumes');
         native(['create', 'V', '20']);
         const bytes = Buffer.concat([Buffer.alloc(100), readFileSync(file('V'))]);
