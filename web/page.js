@@ -78,6 +78,7 @@ export class Tabs {
         this.shown = name;
         for (const it of ALL) {
             $(it).hidden = it !== name;
+            $(it).ariaHidden = String(it !== name);
             $(`tab-${it}`).setAttribute('aria-selected', String(it === name));
             $(`tab-${it}`).tabIndex = it === name ? 0 : -1;
         }
