@@ -10,6 +10,8 @@ export class Paper {
     #due = 0;
     #timer = 0;
     #isAsked = false;
+    // Whether the end was in sight before the paper got another size.
+    isAtEnd = true;
 
     // `shown` gets how many characters were printed, `kept` what the paper then holds.
     /** @param {HTMLElement} element @param {{ shown?: (count: number) => void, kept?: (text: string) => void, sound?: import('./sound.js').Sound }} [how] */
@@ -23,7 +25,12 @@ export class Paper {
         this.returned = '';
         this.length = 0;
         this.#sheet();
+        element.addEventListener('scroll', () => { this.isAtEnd = this.#seesEnd; });
+        new ResizeObserver(() => { if (this.isAtEnd) element.scrollTop = element.scrollHeight; }).observe(element);
     }
+
+    // Whether the end of the paper is in sight.
+    get #seesEnd() { return this.element.scrollTop + this.element.clientHeight >= this.element.scrollHeight - 30; }
 
     get text() { return this.element.textContent; }
 
@@ -118,8 +125,7 @@ export class Paper {
 
     /** @param {string} text */
     #put(text) {
-        const { element } = this, isAtEnd = element.scrollTop + element.clientHeight >= element.scrollHeight - 30;
-        const cut = text.indexOf('\n') + 1;
+        const { element } = this, isAtEnd = this.#seesEnd, cut = text.indexOf('\n') + 1;
         if (this.laid > SHEET && cut) {
             this.#lay(text.slice(0, cut));
             this.#sheet();

@@ -115,6 +115,19 @@ await run('panel', {
         await page.go(`${url}?again`);
         same('AB\r', await under(), 'what is under after a reload');
     },
+    'the end of the paper stays in sight where the window gets smaller': async (page, url) => {
+        await page.size(1280, 800);
+        await page.go(`${url}#machine`);
+        await page.look(`geivottu.machine.paper.replace('A LINE\\n'.repeat(8) + 'THE END')`);
+        const gap = () => page.look(`(it => it.scrollHeight - it.clientHeight - it.scrollTop)(document.getElementById('console'))`);
+        holds(await gap() < 5, `${await gap()} pixels are below the wide paper`);
+        await page.size(390, 844);
+        await page.until(`(it => it.scrollHeight > it.clientHeight + 30 && it.scrollHeight - it.clientHeight - it.scrollTop < 5)(document.getElementById('console'))`);
+        await page.look(`document.getElementById('console').scrollTop = 0`);
+        await page.size(390, 700);
+        await page.size(390, 844);
+        same(0, await page.look(`document.getElementById('console').scrollTop`), 'where the paper is that was scrolled back');
+    },
     'bell and clatter sound where they are switched on, and that is kept': async (page, url) => {
         const source = `window.sounds = ''; window.AudioContext = class { currentTime = 0; sampleRate = 8000; state = 'running'; destination = {};
             #node(name) { return { frequency: {}, playbackRate: {}, connect: it => it, start() { window.sounds += name; }, stop() {} }; }
