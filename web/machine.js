@@ -187,7 +187,7 @@ export class Machine {
         const first = words[0] ? Number.parseInt(words[0][0] + words[0][1], 8) : 0o200, isStart = start !== null && /^[0-7]{5}$/.test(start);
         this.#point(isStart ? Number.parseInt(start, 8) : words.some(([field, address]) => field + address === '00200') ? 0o200 : first);
         this.isLoaded = true;
-        tell('machine-status', `${name}: ${words.length} words are in core; START begins at ${octal(this.panel.address, 5)}`);
+        tell('machine-status', `${name}: ${words.length === 1 ? '1 word is' : `${words.length} words are`} in core; START begins at ${octal(this.panel.address, 5)}`);
         await this.#refresh();
     }
 
@@ -252,7 +252,7 @@ export class Machine {
         await this.#halt();
         this.isLoaded = false;
         const [reply] = await this.#begun(this.panel.address) ?? [''];
-        tell('machine-status', reply);
+        tell('machine-status', stepsIn(reply));
         await this.go();
     }
 

@@ -74,9 +74,11 @@ function reasonOf(value, why) {
 /** @type {Record<string, string>} */
 const STOPS = { LIMIT: 'the next instruction is at', HALT: 'it has halted, before', BREAK: 'it has come to the break at', UNASSIGNED: 'no instruction is at' };
 
-// The reply to steps in words, with the program's line.
+// The reply to steps, or to START, in words, with the program's line.
 /** @param {string} reply */
 export function stepsIn(reply) {
+    const [, start] = /^STARTED ([0-7]{5})/.exec(reply) ?? [];
+    if (start) return `it goes from ${start} (${reply})`;
     const [, steps, why, cell] = /^STEPS (\d+) ([A-Z]+) ([0-7]{5})/.exec(reply) ?? [];
     return STOPS[why] ? `${steps} ${steps === '1' ? 'step' : 'steps'}: ${STOPS[why]} ${cell} (${reply})` : reply;
 }
