@@ -1,12 +1,14 @@
 // figures.mjs PROGRAM FOLDER [PART..]: how quick the page is, how large, and how much memory it takes. Each time is the best of some tries, since
-// other programs may take the processors meanwhile; that of a key or a click is the middle one. With IDLE=1 in the environment there are 60 pictures a
-// second, whatever the page's own work for each is, and no time is thrice what it is elsewhere. As losses.mjs otherwise.
+// other programs may take the processors meanwhile. With IDLE=1 in the environment there are 60 pictures a second, whatever the page's own work for each
+// is, and keys and clicks are timed: the middle of nine times. As losses.mjs otherwise.
 import { randomBytes } from 'node:crypto';
 import { readFileSync, readdirSync, statSync, writeFileSync } from 'node:fs';
 import { join, resolve } from 'node:path';
 import { alone, assemble, file, holds, isTold, native, pane, run, same } from './tools.mjs';
 
 const TRIES = 8, STEPS = 40;
+// A long text, and how much later than in a bare text area a key of it may have its picture, in milliseconds.
+const LINE = '/ A LINE\n', LINES = 15000, BESIDE = 15;
 const LOOP = '*200\nA,\tISZ B\n\tJMP A\n\tISZ C\n\tJMP A\n\tJMP A\nB,\t0\nC,\t0\n$\n';
 const PRINTS = '*200\nA,\tTAD B\n\tTLS\n\tCLA\n\tISZ D\n\tJMP A\n\tTAD E\n\tTLS\n\tCLA\n\tTAD F\n\tTLS\n\tCLA\n\tTAD G\n\tDCA D\n\tJMP A\nB,\t301\nD,\t7740\nE,\t215\nF,\t212\nG,\t7740\n$\n';
 const PICTURES = `new Promise(go => { let count = 0; const end = performance.now() + 1000;
@@ -57,25 +59,48 @@ async function pictured(page, shows, act) {
     return page.look('took');
 }
 
-// What is said where the middle of some such times is above a limit. Where other programs have the processors, thrice of it will do, or else that the
-// page's own work for each is below it. `act` and `shows` get the number of the try.
-async function answers(page, what, limit, shows, act) {
-    const all = [], before = await spent(page);
+// Nine such times, in order. `act` and `shows` get the number of the try.
+async function times(page, shows, act) {
+    const all = [];
     for (let k = 0; k < 9; k++) all.push(await pictured(page, shows(k), () => act(k)));
-    const own = (await spent(page) - before) / all.length, middle = all.sort((a, b) => a - b)[4];
-    const words = `${what}: ${all.map(it => Math.round(it)).join(', ')} ms, of ${own.toFixed(1)} ms of work each`;
+    return all.sort((a, b) => a - b).map(it => Math.round(it));
+}
+
+// What is said where the middle of nine such times is above a limit.
+async function answers(page, what, limit, shows, act) {
+    const before = await spent(page), all = await times(page, shows, act), own = (await spent(page) - before) / all.length;
+    const words = `${what}: ${all.join(', ')} ms, of ${own.toFixed(1)} ms of work each, where ${limit} are wanted`;
     console.log(`figures: ${words}`);
-    return middle < (process.env.IDLE ? limit : 3 * limit) || (!process.env.IDLE && own < limit) ? '' : words;
+    return all[4] <= limit ? '' : words;
+}
+
+// Two keys in a text of so many lines, by the middle of nine times each, in a text area of the browser alone.
+async function bare(page, lines) {
+    await page.look(`(() => { const it = Object.assign(document.createElement('textarea'), { id: 'bare', wrap: 'off', spellcheck: false });
+        Object.assign(it.style, { position: 'fixed', inset: '100px', zIndex: 9, font: '13px/1.4 monospace', contain: 'strict' });
+        document.body.append(it); it.value = ${JSON.stringify(LINE)}.repeat(${lines}); it.focus(); it.setSelectionRange(${lines * 5}, ${lines * 5}); })()`);
+    const all = [];
+    for (const [at, key] of ['A', 'Enter'].entries()) all.push((await times(page, k => `document.getElementById('bare').selectionStart === ${lines * 5 + 9 * at + k + 1}`, () => page.key(key)))[4]);
+    await page.look(`document.getElementById('bare').remove()`);
+    console.log(`figures: in ${lines} lines of a bare text area a key takes ${all[0]} ms, and a new line ${all[1]}`);
+    return all;
+}
+
+// Two keys in a text of so many lines. Each has its picture in 50 ms, or soon after a bare text area has it.
+async function typed(page, lines, when) {
+    await pane(page, 'source');
+    const least = await bare(page, lines), told = [];
+    for (const [at, key] of ['A', 'Enter'].entries()) {
+        await page.look(`(() => { const it = document.getElementById('text'); it.focus(); it.setSelectionRange(${lines * 5}, ${lines * 5}); })()`);
+        told.push(await answers(page, `${at ? 'a new line' : 'a key'} in ${lines} lines, ${when}`, Math.max(50, least[at] + BESIDE),
+            k => `document.getElementById('text').selectionStart === ${lines * 5 + k + 1}`, () => page.key(key)));
+    }
+    return told;
 }
 
 // Keys in a long text, steps, clicks on files, and changes of panes: what of them takes too long, in words.
 async function handled(page, when) {
-    const clicks = selector => () => page.click(selector), told = [];
-    await pane(page, 'source');
-    await page.look(`(() => { const it = document.getElementById('text'); it.focus(); it.setSelectionRange(70000, 70000); })()`);
-    told.push(await answers(page, `a key in 15,000 lines, ${when}`, 50, k => `document.getElementById('text').selectionStart === ${70001 + k}`, k => page.key('A')));
-    await page.look(`document.getElementById('text').setSelectionRange(70000, 70000)`);
-    told.push(await answers(page, `a new line in 15,000 lines, ${when}`, 50, k => `document.getElementById('text').selectionStart === ${70001 + k}`, k => page.key('Enter')));
+    const clicks = selector => () => page.click(selector), told = await typed(page, LINES, when);
     await pane(page, 'machine');
     await page.click('#key-load');
     told.push(await answers(page, `a step, ${when}`, 50, k => `document.getElementById('steps').textContent.startsWith('${k + 1} step')`, clicks('#key-step')));
@@ -132,13 +157,13 @@ const tests = {
         await isTold(page, 'machine-status', 'words are in core');
         await page.click('#tab-source');
         await page.click('#to-teletype');
-        await text('/ A LINE\n'.repeat(15000) + LOOP);
+        await text(LINE.repeat(LINES) + LOOP);
         const alone = await handled(page, 'alone');
         await text(LOOP);
         await pane(page, 'teletype');
         await page.click('#tty-run');
         await isTold(page, 'tty-status', 'running');
-        await text('/ A LINE\n'.repeat(15000) + LOOP);
+        await text(LINE.repeat(LINES) + LOOP);
         const busy = await handled(page, 'beside a busy worker');
         await pane(page, 'teletype');
         await page.click('#tty-stop');

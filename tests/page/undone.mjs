@@ -59,6 +59,18 @@ await run('undone', {
         await page.until(`!!document.querySelector('tr[data-name="ONE.TX"]')`);
         same(one, await image(page), 'the image');
     },
+    'fifty changes of files are undone after a reload': async (page, url) => {
+        const one = await withOne(page, url);
+        for (let k = 0; k < 50; k++) await page.look(`geivottu.undo.group('DISK', 'file ${k}', () => geivottu.programs.ask(['put', 'DISK', '-', '--as', 'F${k}.TX', '--text'], 'A ${k}\\n'))`);
+        await page.look('geivottu.store.settled()');
+        await page.go(`${url}?again`);
+        await page.until(`document.querySelectorAll('#directory tbody tr').length === 51`);
+        for (let k = 49; k >= 0; k--) {
+            await page.click('#undo');
+            await page.until(`geivottu.undo.count === ${k}`);
+        }
+        same(one, await image(page), 'the image');
+    },
     'several files that were put at once are one change, and keys undo it': async (page, url) => {
         await page.go(url);
         await create(page, 'DISK');
@@ -218,7 +230,7 @@ await run('undone', {
         await pane(page, 'files');
         const before = await image(page);
         for (const [it, form] of [['IT.PA', 'text'], ['IT.BN', 'tape']]) {
-            const home = await page.home(`button[aria-label="${it} home as a ${form}"]`);
+            const home = await page.home(`button[aria-label="${it} save as a ${form}"]`);
             same(it, home.name, 'the name');
             writeFileSync(file(it), home.bytes);
         }
@@ -233,7 +245,7 @@ await run('undone', {
         native(['put', 'A', '-', '--as', 'ONE.TX', '--text', '--date', '1974-03-12'], 'the first\n');
         await page.give('#image', file('A'));
         await page.until(`document.querySelector('tr[data-name="ONE.TX"] .date')?.textContent === '1974-03-12'`);
-        const { name, bytes } = await page.home('button[aria-label="ONE.TX home as a text"]');
+        const { name, bytes } = await page.home('button[aria-label="ONE.TX save as a text"]');
         writeFileSync(file(name), bytes);
         await create(page, 'B');
         await put(page, 'name', 'ONE.TX');
@@ -257,10 +269,10 @@ await run('undone', {
         native(['copy', 'A', 'ONE.TX', 'B']);
         await page.choose('#volume', 'A');
         await page.until(`!!document.querySelector('tr[data-name="ONE.TX"]')`);
-        await page.click('button[aria-label="ONE.TX copy"]');
+        await page.click('button[aria-label="ONE.TX copy to another volume"]');
         await answer(page, 'Copy ONE.TX to which volume?', 0);
         await isTold(page, 'files-status', 'B: STORED ONE.TX');
-        await page.click('button[aria-label="ONE.TX copy"]');
+        await page.click('button[aria-label="ONE.TX copy to another volume"]');
         await answer(page, 'Copy ONE.TX to which volume?', 0);
         await answer(page, 'B has a file ONE.TX', 0);
         await isTold(page, 'files-status', 'was left as it was');
