@@ -128,20 +128,22 @@ await run('kept', {
         await leave(page);
         same(null, await page.look('geivottu.teletype.run'), 'a program that was stopped');
     },
-    'a session keeps the files that it has stored': async (page, url) => {
+    'a session keeps the files that it has stored, where the page is left and where it is stopped': async (page, url) => {
         await page.go(url);
         await create(page, 'DISK');
-        await pane(page, 'script');
-        await page.click('#session');
-        await page.until(`!document.getElementById('entry-line').disabled`);
-        for (const it of ['STORE ONE 1', 'THE LINE']) {
-            await page.fill('#entry-line', it);
-            await page.key('Enter');
+        for (const [name, ends] of [['ONE', () => leave(page)], ['TWO', () => page.click('#script-stop').then(() => isTold(page, 'script-status', 'It was stopped.'))]]) {
+            await pane(page, 'script');
+            await page.click('#session');
+            await page.until(`!document.getElementById('entry-line').disabled`);
+            for (const it of [`STORE ${name} 1`, 'THE LINE']) {
+                await page.fill('#entry-line', it);
+                await page.key('Enter');
+            }
+            await isTold(page, 'replies', `STORED ${name} 1`);
+            await ends();
+            await pane(page, 'files');
+            await page.until(`!!document.querySelector('tr[data-name="${name}"]')`);
         }
-        await isTold(page, 'replies', 'STORED ONE 1');
-        await leave(page);
-        await pane(page, 'files');
-        await page.until(`!!document.querySelector('tr[data-name="ONE"]')`);
     },
     'the replies of a script and of a session are there after a reload, with how it ended': async (page, url) => {
         await page.go(url);
