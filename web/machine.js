@@ -78,7 +78,7 @@ export class Machine {
     async #close(follows) {
         $('machine').classList.toggle('followed', follows && this.owner !== undefined);
         if (!follows) return this.#restore();
-        this.isGoing = false;
+        this.isGoing = this.isDepositing = false;
         await this.living.stop();
     }
 
