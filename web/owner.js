@@ -41,7 +41,9 @@ export class Owner {
     }
 
     // Leaves it to the tab that wants it, which has heard of all of it then, and waits for it in turn.
-    #leave() {
+    async #leave() {
+        this.store.leave();
+        await this.store.settled();
         this.store.leave();
         this.claims.leave(this.kind);
         this.claims.claim(this.kind);

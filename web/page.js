@@ -105,6 +105,7 @@ async function begin() {
     if (!canLive) hideUnable();
     const claims = new Claims();
     for (const it of KINDS) claims.claim(it);
+    await claims.known(); // a page that is just left writes until it is gone
     const store = await Store.open(claims);
     const programs = new Programs(await load('pdp8.wasm'), store);
     const page = /** @type {Page} */ ({ store, claims, programs, undo: new Undo(store), sound: new Sound(store), tell: trouble });

@@ -30,6 +30,9 @@ export class Store extends EventTarget {
     #due = new Map();
     /** @type {Map<string, [Slot, string]>} */
     #failed = new Map();
+    // What the other tabs don't have yet.
+    /** @type {Map<string, [Slot, string]>} */
+    #news = new Map();
     /** @type {Map<string, Kept>} */
     #home = new Map();
     /** @type {Set<Kept>} */
@@ -66,31 +69,36 @@ export class Store extends EventTarget {
     // Writes all that is due, before the page is left. Panes hear of it, and note what they haven't yet.
     leave() {
         this.dispatchEvent(new Event('leave'));
+        this.#sendNews();
         this.#write();
     }
 
-    // What another tab sends: a file or a note as it is now, or that it asks for those that this tab has.
-    /** @param {{ asks?: boolean, slot: Slot, key: string, value: any }} it */
-    #heard({ asks, slot, key, value }) {
-        if (asks) {
-            for (const it of this.claims.names.filter(name => this.claims.has(name)))
-                this.#sendAll(it);
-            return;
-        }
-        value === undefined ? this[slot].delete(key) : this.#slot(slot).set(key, value);
-        this.dispatchEvent(new CustomEvent(slot.slice(0, -1), { detail: key }));
+    // What another tab sends: files and notes as they are now, or that it asks for those that this tab has.
+    /** @param {{ asks?: boolean, news?: [Slot, string, any][] }} it */
+    #heard({ asks, news = [] }) {
+        if (asks) for (const it of this.claims.names.filter(name => this.claims.has(name))) this.#sendAll(it);
+        for (const [slot, key, value] of news) value === undefined ? this[slot].delete(key) : this.#slot(slot).set(key, value);
+        for (const [slot, key] of news) this.dispatchEvent(new CustomEvent(slot.slice(0, -1), { detail: key }));
     }
 
     // Sends all that a claim stands for.
     /** @param {string} claim */
     #sendAll(claim) {
-        for (const [key, value] of this.notes) if (ownerOf(key) === claim) this.#send('notes', key, value);
-        if (claim.startsWith('volume ')) this.#send('files', claim.slice(7), this.files.get(claim.slice(7)));
+        for (const key of this.notes.keys()) if (ownerOf(key) === claim) this.#send('notes', key);
+        if (claim.startsWith('volume ')) this.#send('files', claim.slice(7));
     }
 
-    /** @param {Slot} slot @param {string} key @param {any} value */
-    #send(slot, key, value) {
-        if (!key.startsWith('.') && (slot === 'files' || isShared(key))) this.#tabs.postMessage({ slot, key, value });
+    // Sends a value once the handler has ended that changed it, with all else that it changed, so that no tab ever has some of it alone.
+    /** @param {Slot} slot @param {string} key */
+    #send(slot, key) {
+        const isNews = !key.startsWith('.') && (slot === 'files' || isShared(key));
+        if (isNews && !this.#news.size) queueMicrotask(() => this.#sendNews());
+        if (isNews) this.#news.set(`${slot} ${key}`, [slot, key]);
+    }
+
+    #sendNews() {
+        if (this.#news.size) this.#tabs.postMessage({ news: [...this.#news.values()].map(([slot, key]) => [slot, key, this[slot].get(key)]) });
+        this.#news.clear();
     }
 
     /** @param {Slot} slot @returns {Map<string, any>} */
@@ -183,7 +191,7 @@ export class Store extends EventTarget {
 
     /** @param {Slot} slot @param {string} key @param {any} value */
     #keep(slot, key, value) {
-        this.#send(slot, key, value);
+        this.#send(slot, key);
         if (key.startsWith('.')) return;
         if (isOwn(slot, key, value)) this.#persist();
         if (!this.#base) {

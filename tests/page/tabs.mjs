@@ -1,4 +1,5 @@
 // tabs.mjs PROGRAM FOLDER [PART]: two tabs of the page, of which one has each kind of state, and the other follows or takes it. As losses.mjs otherwise.
+import { pause } from './browser.mjs';
 import { further, holds, isTold, pane, run, same, setSource, toCore } from './tools.mjs';
 
 const ECHO = '*200\nA,\tKSF\n\tJMP A\n\tKRB\n\tTLS\n\tTSF\n\tJMP .-1\n\tJMP A\n$\n';
@@ -71,6 +72,30 @@ await run('tabs', {
         await page.keys('B');
         await isTold(page, 'console', 'B');
         await page.click('#key-stop');
+    },
+    'a page that begins before the one before it is gone has what that wrote last': async (page, url) => {
+        const first = await further(page, url), deaf = `Object.defineProperty(BroadcastChannel.prototype, 'onmessage', { set() {} });`;
+        await setSource(first, 'THE FIRST\n');
+        await page.call('Page.addScriptToEvaluateOnNewDocument', { source: `${deaf} navigator.locks.query = () => new Promise(() => {});` });
+        await page.call('Page.navigate', { url: `${url}?second#source` });
+        await first.until(`navigator.locks.query().then(({ pending }) => pending.some(it => it.name === 'geivottu text'))`);
+        await pause(500);
+        await first.fill('#text', 'THE LAST\n');
+        await first.end();
+        await page.until(`!!document.getElementById('ready')`);
+        same('THE LAST\n', await value(page, 'text'), 'the text');
+    },
+    'what a machine has printed comes to the other tab with the machine': async (page, url) => {
+        const first = await two(page, url);
+        await page.look(`window.news = []; window.ear = new BroadcastChannel('geivottu'); ear.onmessage = ({ data }) => news.push((data.news ?? []).map(([, key]) => key)); 0`);
+        await toCore(first, ECHO);
+        await first.click('#key-start');
+        await first.look(`document.getElementById('console').focus()`);
+        await first.keys('A');
+        await isTold(first, 'console', 'A');
+        await page.until(`news.some(it => it.includes('console'))`);
+        same('[]', await page.look(`JSON.stringify(news.filter(it => it.includes('console') && !['machine', 'printed'].every(key => it.includes(key))))`), 'a paper without its machine');
+        await first.click('#key-stop');
     },
     'the shelf and a new text take what they need from the other tab': async (page, url) => {
         const first = await two(page, url);
