@@ -36,9 +36,10 @@ export class Journal {
     // The lines without the last step, null where they don't end with one.
     get beforeLast() { return this.#due ? [...this.#lines, ...goes(this.#due - 1)] : null; }
 
-    // Begins anew: a machine got these lines, which are its whole past.
+    // Begins anew: a machine got these lines, which are its whole past. Where its run ended before it replied all stays as it was.
     /** @param {string[]} given @param {string[] | null} replies */
     begin(given, replies) {
+        if (!replies) return;
         [this.#lines, this.left, this.#due] = [[], [], 0];
         this.#see(given, replies);
         [this.#steps, this.#first] = [0, this.#lines.length];

@@ -48,7 +48,7 @@ export class Living {
 
     async #begin() {
         const { journal } = this, given = [...journal.lines], { programs } = this.page;
-        const lines = await Lines.begin(programs, ['run', '--look', await this.image()], { ended: (status, said) => this.#ended(status, said) });
+        const lines = await Lines.begin(programs, ['run', '--look', await this.image()], { ended: (status, said, failed) => this.#ended(status, said, failed) });
         [this.#taken, this.#unlisted] = [this.#taken - this.#unlisted, 0];
         for (const cell of this.how.breaks()) given.push(`BREAK ${cell} ON`);
         given.push(`SWITCHES ${octal(this.how.switches(), 4)}`, ...journal.left);
@@ -56,9 +56,10 @@ export class Living {
         return lines;
     }
 
-    /** @param {number | null} status @param {string} said */
-    #ended(status, said) {
-        if (status === null) return;
+    // A run that was stopped has neither a status nor a failure.
+    /** @param {number | null} status @param {string} said @param {string | null} failed */
+    #ended(status, said, failed) {
+        if (status === null && failed === null) return;
         this.lines = null;
         this.how.ended(said);
     }

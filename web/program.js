@@ -132,7 +132,7 @@ export class Programs extends EventTarget {
         this.#count(words, new Promise(go => { over = () => go(undefined); }));
         await this.#last;
         await this.store.claims.known();
-        return new Run(this, words, { ...how, input: null, ended: status => { over(); how.ended?.(status); } });
+        return new Run(this, words, { ...how, input: null, ended: (status, failed) => { over(); how.ended?.(status, failed); } });
     }
 
     // Workers are begun ahead, since that takes some time.
@@ -142,7 +142,8 @@ export class Programs extends EventTarget {
     }
 }
 
-// One run. `heard` and `said` take what it writes to standard output and to standard error, `ended` its status, null where it was stopped. `room` is
+// One run. `heard` and `said` take what it writes to standard output and to standard error, `ended` its status, null where it was stopped or has
+// failed, and why it failed, null where it has not. `room` is
 // how many bytes it may be ahead of what `show` was given, none for no limit. `patience` is after how many milliseconds a read gives nothing. `again`
 // has the reads of a run that this one follows, and `read` takes each further one that gives bytes, after how many that gave none.
 export class Run {
@@ -197,7 +198,7 @@ export class Run {
         this.worker.terminate();
         this.holds.forEach(it => this.programs.held.delete(it));
         if (failed) this.how.said?.(bytesOf(`${failed}\n`));
-        this.how.ended?.(status);
+        this.how.ended?.(status, failed);
     }
 
     // Bytes for its standard input.
@@ -251,14 +252,14 @@ export class Lines {
     /** @type {Run | undefined} */
     run = undefined;
 
-    /** @param {Programs} programs @param {string[]} words @param {{ ended?: (status: number | null, said: string) => void, terminal?: boolean }} [how] */
+    /** @param {Programs} programs @param {string[]} words @param {{ ended?: (status: number | null, said: string, failed: string | null) => void, terminal?: boolean }} [how] */
     static async begin(programs, words, how = {}) {
         const it = new Lines();
         it.run = await programs.begin(words, {
             terminal: how.terminal,
             heard: bytes => it.#hear(textOf(bytes)),
             said: bytes => { it.said += textOf(bytes); },
-            ended: status => { it.#waiting.splice(0).forEach(({ go }) => go(null)); how.ended?.(status, it.said + it.#text); },
+            ended: (status, failed) => { it.#waiting.splice(0).forEach(({ go }) => go(null)); how.ended?.(status, it.said + it.#text, failed); },
         });
         return it;
     }

@@ -22,7 +22,7 @@ interface Claim { has: boolean; leave: () => void; known: Promise<void> }
 
 // How a run's output is taken, and how it ended.
 interface How {
-    heard?: (bytes: Uint8Array, reads: number, quiet: number) => void; said?: (bytes: Uint8Array) => void; ended?: (status: number | null) => void;
+    heard?: (bytes: Uint8Array, reads: number, quiet: number) => void; said?: (bytes: Uint8Array) => void; ended?: (status: number | null, failed: string | null) => void;
     input?: Uint8Array | null; terminal?: boolean; room?: number; patience?: number;
     again?: [number, Uint8Array][]; read?: (quiet: number, bytes: Uint8Array) => void;
 }

@@ -241,6 +241,23 @@ await run('kept', {
         await isTold(page, 'machine-status', 'Undone: going on from the step');
         same(typed, await core(), 'core before the step');
     },
+    'a machine whose run can\'t begin is there once it can': async (page, url) => {
+        await page.go(url);
+        await toCore(page, COUNT);
+        await page.look(`document.getElementById('key-step').click(); geivottu.machine.stepped`);
+        const shown = await machine(page);
+        const { identifier } = await page.call('Page.addScriptToEvaluateOnNewDocument', { source: `{ const { postMessage } = Worker.prototype;
+            Worker.prototype.postMessage = function (it) {
+                if (it.begin && it.words.slice(0, 2).join() === 'run,--look') setTimeout(() => this.onmessage({ data: { status: null, failed: 'no memory' } }));
+                else postMessage.call(this, it);
+            }; }` });
+        await leave(page);
+        await isTold(page, 'machine-status', 'no memory');
+        await page.call('Page.removeScriptToEvaluateOnNewDocument', { identifier });
+        await leave(page);
+        await page.until(`document.getElementById('core').textContent !== ''`);
+        same(shown, await machine(page), 'the machine');
+    },
     'each step is kept as it is shown': async (page, url) => {
         await page.go(url);
         await toCore(page, COUNT);
