@@ -180,7 +180,7 @@ export class Files {
     async begin() {
         this.#list();
         const last = this.page.store.notes.get('volume');
-        await this.open(this.volumes.includes(last) ? last : this.volumes[0] ?? '');
+        await this.open(last === '' || this.volumes.includes(last) ? last : this.volumes[0] ?? '');
     }
 
     #list() {
