@@ -1,7 +1,9 @@
 -- Known bytes that are taken, or written, in parts, some of them ahead, or on paper.
 use Rattle.std.proofs.Common.{◌≡◌, ℕ, Option, Some, None, Ok, Err, List, [], ◌∷◌, ◌++◌, ◌∙◌, ap, sym, refl, subst, append_assoc, append-nil}
 use Rattle.std.specs.Io.KnownBytes.{Consumes, Appends, IsAtEnd}
-use Rattle.terminal8.specs.RunSteps.{Strikes, GivesByte, ReadsByte, Passes, Holds}
+use Rattle.terminal8.specs.KeyReads.{Strikes}
+use Rattle.terminal8.specs.Papers.{Passes, Holds}
+use Rattle.terminal8.specs.RunSteps.{GivesByte, ReadsByte}
 use Rattle.terminal8.specs.declared.outcomes.TerminalFault.{TerminalFault}
 use Rattle.terminal8.specs.declared.outcomes.TerminalFault.TheVariants.{Reader, Writer}
 

@@ -7,7 +7,8 @@ use Rattle.terminal8.specs.KeySteps.{keyboard_after}
 use Rattle.terminal8.specs.Asks.{asks_for_key, waits_for_key}
 use Rattle.terminal8.specs.Terminal.{Terminal, new_terminal, after_look, is_none_left}
 use Rattle.terminal8.specs.Run.{keys_found, FindsKey}
-use Rattle.terminal8.specs.RunSteps.{Strikes, StrikesKeys, IsDry, Looks, Attends, is_ending}
+use Rattle.terminal8.specs.KeyReads.{Strikes, StrikesKeys, IsDry}
+use Rattle.terminal8.specs.RunSteps.{Looks, Attends, is_ending}
 use Rattle.terminal8.specs.declared.inputs.Input.{Input}
 use Rattle.terminal8.specs.declared.inputs.Input.TheVariants.{Ending, Live}
 use Rattle.terminal8.proofs.ByteLemmas.{strikes-none, strikes-more}

@@ -11,7 +11,9 @@ use Rattle.terminal8.specs.KeySteps.{keyboard_after}
 use Rattle.terminal8.specs.Asks.{asks_for_key}
 use Rattle.terminal8.specs.Terminal.{Terminal, new_terminal, after_look, after_step, next, later, last_did, characters_of, visible_characters, starves, has_halted, stop_of, GoesOn, Ends}
 use Rattle.terminal8.specs.Run.{MayFollow, FindsKey, FindsNone, HaveEnded, HasMadeSteps, IsRunOf, IsCut, WritesPrinted, RunsProgram}
-use Rattle.terminal8.specs.RunSteps.{StrikesKeys, IsDry, IsNoneOnly, Passes, Holds, Attends, Misses, Prints, RunsInto}
+use Rattle.terminal8.specs.KeyReads.{StrikesKeys, IsDry}
+use Rattle.terminal8.specs.Papers.{Passes, Holds}
+use Rattle.terminal8.specs.RunSteps.{IsNoneOnly, Attends, Misses, Prints, RunsInto}
 use Rattle.terminal8.specs.declared.inputs.Input.{Input}
 use Rattle.terminal8.specs.declared.outcomes.TerminalFault.{TerminalFault}
 use Rattle.terminal8.specs.declared.outcomes.TerminalFault.TheVariants.{Reader, Writer}

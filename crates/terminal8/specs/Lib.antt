@@ -4,5 +4,7 @@ pub mod Asks
 pub mod Terminal
 pub mod Fetches
 pub mod Run
+pub mod KeyReads
+pub mod Papers
 pub mod RunSteps
 pub mod Laws

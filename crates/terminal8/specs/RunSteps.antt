@@ -1,9 +1,10 @@
 -- The steps of a run, for private clauses.
 use Rattle.std.specs.Prelude.{◌≡◌, ℕ, ◌≤◌, Bool, true, false, List, [], ◌∷◌, ◌++◌, Option, Some, None, Result, Ok, Err}
-use Rattle.std.specs.Io.KnownBytes.{Consumes, Appends, IsAtEnd}
+use Rattle.std.specs.Io.KnownBytes.{Consumes, IsAtEnd}
 use Rattle.cpu8.specs.State.{State}
-use Rattle.terminal8.specs.Keys.{Keyboard, keys_from}
-use Rattle.terminal8.specs.KeySteps.{keyboard_after}
+use Rattle.terminal8.specs.Keys.{Keyboard}
+use Rattle.terminal8.specs.KeyReads.{Strikes, StrikesKeys, IsDry}
+use Rattle.terminal8.specs.Papers.{Passes}
 use Rattle.terminal8.specs.Terminal.{new_terminal, after_look, after_attention, is_none_left, characters_of, visible_characters, starves}
 use Rattle.terminal8.specs.Run.{MayFollow, FindsKey, HaveEnded, IsCut, IsRunOf}
 use Rattle.terminal8.specs.declared.inputs.Input.{Input}
@@ -25,48 +26,11 @@ abbrev pub GivesByte : List ℕ → List ℕ → Option ℕ → Type 0
 GivesByte old new (Some byte) = old ≡ byte ∷ new
 GivesByte old new None = (old ≡ []) × (new ≡ [])
 
--- These bytes were struck, of those ahead and then of the reader's.
-pub record Strikes (ahead ahead' : List ℕ) (reader reader' : Option (List ℕ)) (bytes : List ℕ) : Type 0 where
-  pub read : List ℕ
-  pub taken : Consumes reader reader' read
-  pub in_order : ahead ++ read ≡ bytes ++ ahead'
-
--- no byte is ahead, and the reader gave none
-abbrev pub IsDry : List ℕ → Option (List ℕ) → Type 0
-IsDry ahead reader = (ahead ≡ []) × IsAtEnd reader
-
 -- what taking the next byte gives
 abbrev pub ReadsByte : List ℕ → List ℕ → Option (List ℕ) → Option (List ℕ) → Result (Option ℕ) TerminalFault → Type 0
 ReadsByte ahead ahead' reader reader' (Ok (Some byte)) = Strikes ahead ahead' reader reader' (byte ∷ [])
 ReadsByte ahead ahead' reader reader' (Ok None) = Strikes ahead ahead' reader reader' [] × IsDry ahead' reader'
 ReadsByte ahead ahead' reader reader' (Err fault) = Strikes ahead ahead' reader reader' []
-
--- bytes were struck that give these keys
-pub record StrikesKeys (k k' : Keyboard) (ahead ahead' : List ℕ) (reader reader' : Option (List ℕ)) (keys : List ℕ) : Type 0 where
-  pub bytes : List ℕ
-  pub strikes : Strikes ahead ahead' reader reader' bytes
-  pub keyboard : k' ≡ keyboard_after k bytes
-  pub keys_are : keys_from k bytes ≡ keys
-
--- what striking bytes up to the next key gives
-abbrev pub ReadsKey : Keyboard → Keyboard → List ℕ → List ℕ → Option (List ℕ) → Option (List ℕ) → Result (Option ℕ) TerminalFault → Type 0
-ReadsKey k k' ahead ahead' reader reader' (Ok (Some key)) = StrikesKeys k k' ahead ahead' reader reader' (key ∷ [])
-ReadsKey k k' ahead ahead' reader reader' (Ok None) = StrikesKeys k k' ahead ahead' reader reader' [] × IsDry ahead' reader'
-ReadsKey k k' ahead ahead' reader reader' (Err fault) = StrikesKeys k k' ahead ahead' reader reader' []
-
--- ## Paper
-
--- These bytes were printed more: some of all went to the writer, and the others are on the paper.
-pub record Passes (writer writer' : Option (List ℕ)) (paper paper' printed : List ℕ) : Type 0 where
-  pub handed : List ℕ
-  pub written : Appends writer writer' handed
-  pub in_order : handed ++ paper' ≡ paper ++ printed
-
--- nothing more was printed, where the writer did not fail
-abbrev pub Holds : {A : Type 0} → Option (List ℕ) → Option (List ℕ) → List ℕ → List ℕ → Result A TerminalFault → Type 0
-Holds writer writer' paper paper' (Ok value) = Passes writer writer' paper paper' []
-Holds writer writer' paper paper' (Err Reader) = Passes writer writer' paper paper' []
-Holds writer writer' paper paper' (Err Writer) = Unit {0}
 
 -- ## The operator
 

@@ -21,5 +21,7 @@ pub use inputs::Input;
 pub use keyboards::{Form, Keyboard, keys_of};
 pub use outcomes::{Ended, TerminalEnd, TerminalFault};
 pub use outputs::Output;
+pub use readings::{ReadAhead, next_key};
 pub use runs::{run, stop_of};
 pub use terminals::Terminal;
+pub use writing::Paper;

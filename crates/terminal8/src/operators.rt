@@ -2,7 +2,8 @@
 
 ghost use Rattle.std.specs.Prelude.{◌≡◌, false, [], IfOk, OnOk, IfErr};
 ghost use Rattle.terminal8.specs.Keys.{fresh};
-ghost use Rattle.terminal8.specs.RunSteps.{Attends, Holds, Looks, Misses, is_ending};
+ghost use Rattle.terminal8.specs.Papers.{Holds};
+ghost use Rattle.terminal8.specs.RunSteps.{Attends, Looks, Misses, is_ending};
 ghost use Rattle.terminal8.specs.declared.outcomes.TerminalFault.TheVariants as fault;
 
 use crate::asking::{asks_for_key, waits_for_key};

@@ -1,7 +1,9 @@
 //! The bytes of a reader, up to the next key.
 
 ghost use Rattle.std.specs.Prelude.{◌≡◌, ◌<◌, ◌≤◌, ◌+◌, ◌*◌, [], length, IfErr, OnErr, OnOk};
-ghost use Rattle.terminal8.specs.RunSteps.{FillsBuffer, GivesByte, Holds, ReadsByte, ReadsKey};
+ghost use Rattle.terminal8.specs.KeyReads.{ReadsKey};
+ghost use Rattle.terminal8.specs.Papers.{Holds};
+ghost use Rattle.terminal8.specs.RunSteps.{FillsBuffer, GivesByte, ReadsByte};
 ghost use Rattle.terminal8.specs.declared.outcomes.TerminalFault.TheVariants as fault;
 
 use crate::keyboards::Keyboard;
@@ -13,7 +15,7 @@ use std::marker::Model;
 
 /// Bytes that were read ahead: those from the place of the next to an end. A contract sees these.
 #[derive(Drop)]
-pub(crate) struct ReadAhead {
+pub struct ReadAhead {
     bytes: [u8; READ_AT_ONCE],
     next: usize,
     end: usize,
@@ -31,7 +33,7 @@ impl Model for ReadAhead {
 
 impl ReadAhead {
     /// None are read ahead.
-    pub(crate) fn new() -> ReadAhead
+    pub fn new() -> ReadAhead
         ensures { result ≡ [] }
     {
         ReadAhead {
@@ -75,7 +77,7 @@ impl ReadAhead {
 }
 
 /// Strikes bytes up to the first that is a key, and answers it. It answers none where the reader gives no byte before.
-pub(crate) fn next_key<R: ByteReader, O: Output>(
+pub fn next_key<R: ByteReader, O: Output>(
     keyboard: &mut Keyboard,
     ahead: &mut ReadAhead,
     paper: &mut Paper,

@@ -6,7 +6,8 @@ ghost use Rattle.cpu8.specs.declared.outcomes.Stepped.TheVariants.{Ran};
 ghost use Rattle.terminal8.specs.Asks.{asks_for_key};
 ghost use Rattle.terminal8.specs.Terminal.{visible_characters, stop_of};
 ghost use Rattle.terminal8.specs.Run.{RunsProgram};
-ghost use Rattle.terminal8.specs.RunSteps.{Passes, RunsInto};
+ghost use Rattle.terminal8.specs.Papers.{Passes};
+ghost use Rattle.terminal8.specs.RunSteps.{RunsInto};
 ghost use Rattle.terminal8.specs.declared.outcomes.TerminalFault.TheVariants as fault;
 
 use crate::asking::steps_before_look;

@@ -4,7 +4,7 @@ ghost use Rattle.std.specs.Prelude.{◌≡◌, ◌∷◌, [], OnErr, OnOk, IfErr
 ghost use Rattle.std.specs.Io.KnownBytes.{Appends};
 ghost use Rattle.cpu8.specs.Go.{character_of};
 ghost use Rattle.terminal8.specs.Terminal.{visible_characters};
-ghost use Rattle.terminal8.specs.RunSteps.{Passes};
+ghost use Rattle.terminal8.specs.Papers.{Passes};
 ghost use Rattle.terminal8.specs.declared.outcomes.TerminalFault.TheVariants as fault;
 
 use crate::outcomes::TerminalFault;
@@ -15,7 +15,7 @@ use std::marker::Model;
 
 /// What was printed and not handed on yet, as bytes.
 #[derive(Drop)]
-pub(crate) struct Paper {
+pub struct Paper {
     bytes: ArrayVec<u8, HANDED_ON_AT_ONCE>,
 }
 
@@ -29,7 +29,7 @@ impl Model for Paper {
 
 impl Paper {
     /// Nothing was printed.
-    pub(crate) fn new() -> Paper
+    pub fn new() -> Paper
         ensures { result ≡ [] }
     {
         Paper {
@@ -39,11 +39,7 @@ impl Paper {
 
     /// Prints what a step did.
     #[inline(always)]
-    pub(crate) fn print<O: Output>(
-        &mut self,
-        writer: &mut O,
-        did: &Stepped,
-    ) -> Result<(), TerminalFault>
+    pub fn print<O: Output>(&mut self, writer: &mut O, did: &Stepped) -> Result<(), TerminalFault>
         ensures ok { OnOk result (Passes (O.contents writer.old) (O.contents writer.new) self.old self.new
             (visible_characters (character_of did.now))) }
         ensures err { IfErr result (λ e. e ≡ fault.Writer) }
@@ -90,7 +86,7 @@ impl Paper {
     }
 
     /// Hands on what was printed to a writer, and has that hand it on too.
-    pub(crate) fn flush<O: Output>(&mut self, writer: &mut O) -> Result<(), TerminalFault>
+    pub fn flush<O: Output>(&mut self, writer: &mut O) -> Result<(), TerminalFault>
         ensures ok { OnOk result (Passes (O.contents writer.old) (O.contents writer.new) self.old self.new
             []) }
         ensures rest { OnOk result (self.new ≡ []) }

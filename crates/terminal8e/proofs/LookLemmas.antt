@@ -3,7 +3,8 @@ use Rattle.std.proofs.Common.{◌≡◌, ℕ, Bool, true, false, true≢false, �
 use Rattle.cpu8e.specs.State.{State8e, key_struck}
 use Rattle.terminal8.specs.Keys.{Keyboard}
 use Rattle.terminal8.specs.Terminal.{is_none_left}
-use Rattle.terminal8.specs.RunSteps.{StrikesKeys, IsDry, is_ending}
+use Rattle.terminal8.specs.KeyReads.{StrikesKeys, IsDry}
+use Rattle.terminal8.specs.RunSteps.{is_ending}
 use Rattle.terminal8.specs.declared.inputs.Input.{Input}
 use Rattle.terminal8.specs.declared.inputs.Input.TheVariants.{Ending, Live}
 use Rattle.terminal8.proofs.LookLemmas.{keys-none, finds-none, finds-key}

@@ -11,7 +11,9 @@ use Rattle.terminal8.specs.Keys.{Keyboard, fresh, keys_from, keys_of}
 use Rattle.terminal8.specs.KeySteps.{keyboard_after}
 use Rattle.terminal8.specs.Terminal.{visible_characters, has_halted, stop_of}
 use Rattle.terminal8.specs.Run.{MayFollow, FindsKey, FindsNone, HaveEnded}
-use Rattle.terminal8.specs.RunSteps.{StrikesKeys, IsDry, IsNoneOnly, Passes, Holds, Misses}
+use Rattle.terminal8.specs.KeyReads.{StrikesKeys, IsDry}
+use Rattle.terminal8.specs.Papers.{Passes, Holds}
+use Rattle.terminal8.specs.RunSteps.{IsNoneOnly, Misses}
 use Rattle.terminal8.specs.declared.inputs.Input.{Input}
 use Rattle.terminal8.specs.declared.outcomes.TerminalFault.{TerminalFault}
 use Rattle.terminal8.specs.declared.outcomes.TerminalFault.TheVariants.{Reader, Writer}

@@ -4,7 +4,9 @@ use Rattle.cpu8e.specs.State.{State8e}
 use Rattle.terminal8.specs.Keys.{Keyboard}
 use Rattle.terminal8.specs.Terminal.{is_none_left, visible_characters}
 use Rattle.terminal8.specs.Run.{MayFollow, FindsKey, HaveEnded}
-use Rattle.terminal8.specs.RunSteps.{StrikesKeys, IsNoneOnly, Passes}
+use Rattle.terminal8.specs.KeyReads.{StrikesKeys}
+use Rattle.terminal8.specs.Papers.{Passes}
+use Rattle.terminal8.specs.RunSteps.{IsNoneOnly}
 use Rattle.terminal8.specs.declared.inputs.Input.{Input}
 use Rattle.terminal8.specs.declared.keyboards.Form.{Form}
 use Rattle.terminal8.specs.declared.outcomes.Ended.{Ended}

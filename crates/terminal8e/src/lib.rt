@@ -7,10 +7,8 @@
 mod asking;
 pub mod laws;
 mod operators;
-mod readings;
 mod runs;
 mod terminals;
-mod writing;
 
 pub use asking::{asks_for_key, waits_for_key};
 pub use runs::run;

@@ -2,16 +2,15 @@
 
 ghost use Rattle.std.specs.Prelude.{◌≡◌, false, [], IfOk, OnOk, IfErr};
 ghost use Rattle.terminal8.specs.Keys.{fresh};
-ghost use Rattle.terminal8.specs.RunSteps.{Holds, Misses, is_ending};
+ghost use Rattle.terminal8.specs.Papers.{Holds};
+ghost use Rattle.terminal8.specs.RunSteps.{Misses, is_ending};
 ghost use Rattle.terminal8e.specs.RunSteps.{Attends, Looks};
 ghost use Rattle.terminal8.specs.declared.outcomes.TerminalFault.TheVariants as fault;
 
 use crate::asking::{asks_for_key, waits_for_key};
-use crate::readings::{ReadAhead, next_key};
-use crate::writing::Paper;
 use byte_reader::ByteReader;
 use cpu8e::Machine;
-use terminal8::{Form, Input, Keyboard, Output, TerminalFault};
+use terminal8::{Form, Input, Keyboard, Output, Paper, ReadAhead, TerminalFault, next_key};
 
 /// Who strikes the keys of a reader.
 #[derive(Drop)]

@@ -4,17 +4,16 @@ ghost use Rattle.std.specs.Prelude.{◌≡◌, [], IfOk, IfErr};
 ghost use Rattle.cpu8.specs.Go.{character_of};
 ghost use Rattle.cpu8e.specs.Runs.{printing_step};
 ghost use Rattle.terminal8.specs.Terminal.{visible_characters};
-ghost use Rattle.terminal8.specs.RunSteps.{Passes};
+ghost use Rattle.terminal8.specs.Papers.{Passes};
 ghost use Rattle.terminal8.specs.declared.outcomes.TerminalFault.TheVariants as fault;
 ghost use Rattle.terminal8e.specs.Run.{RunsProgram};
 ghost use Rattle.terminal8e.specs.RunSteps.{RunsInto};
 
 use crate::operators::Operator;
-use crate::writing::Paper;
 use byte_reader::ByteReader;
 use cpu8::Stepped;
 use cpu8e::Machine;
-use terminal8::{Ended, Form, Input, Output, TerminalEnd, TerminalFault, stop_of};
+use terminal8::{Ended, Form, Input, Output, Paper, TerminalEnd, TerminalFault, stop_of};
 
 /// Runs an 8/E, at most n steps of it, each an instruction or an interrupt, with a printer that ends its character before the next
 /// step. A key is looked for only where the program asks for one, and is struck there. What is printed goes to the writer without its

@@ -1,5 +1,6 @@
 use Rattle.std.proofs.Common.{◌+◌, ◌*◌, [], length}
-use Rattle.terminal8.specs.RunSteps.{Passes, StrikesKeys}
+use Rattle.terminal8.specs.KeyReads.{StrikesKeys}
+use Rattle.terminal8.specs.Papers.{Passes}
 use Rattle.terminal8.proofs.readings.next_key.Given as goal
 
 -- what was struck is no key, and nothing was printed

@@ -1,5 +1,5 @@
 use Rattle.std.proofs.Common.{ℕ, Option, Ok, subst}
-use Rattle.terminal8.specs.RunSteps.{ReadsKey}
+use Rattle.terminal8.specs.KeyReads.{ReadsKey}
 use Rattle.terminal8.proofs.LookLemmas.{looks-over, looks-key, looks-none}
 use Rattle.terminal8.proofs.operators.Operator.look.Goals as goal
 
