@@ -16,14 +16,14 @@ use Rattle.terminal8.specs.Asks.{asks_for_key}
 use Rattle.terminal8.specs.Terminal.{Terminal, after_attention, after_look, after_step}
 use Rattle.trace8.specs.Stores.{cells_of, changing_cells}
 
-either : {A : Type 0} (P : A → Type 0) (b : Bool) (x y : A) → P x → P y → P (if b then x else y)
+pub either : {A : Type 0} (P : A → Type 0) (b : Bool) (x y : A) → P x → P y → P (if b then x else y)
 either P true x y px py = px
 either P false x y px py = py
 
 -- ## Cells of core
 
 -- where a list was given another word, that is told
-changed_at : (core : List ℕ) (at word cell : ℕ) → slice_index (slice_set core at word) cell ≢ slice_index core cell → cell ≡ at
+pub changed_at : (core : List ℕ) (at word cell : ℕ) → slice_index (slice_set core at word) cell ≢ slice_index core cell → cell ≡ at
 changed_at core at word cell changed = elim (eqb_tells cell at) [
   | inl same ↦ same.1
   | inr other ↦ absurd (changed (get_or-set_other core at cell word 0 (let ne = other.1 in ne)))
@@ -69,10 +69,10 @@ stored_told b core at word to stored cell changed = elim (eqb_tells cell to) [
 -- ## Instructions
 
 -- transfers and operates keep core
-abbrev Keeps : State → State → Type 0
+abbrev pub Keeps : State → State → Type 0
 Keeps s now = now.core ≡ s.core
 
-interrupts_keep : (s : State) (w : ℕ) → Keeps s (interrupts_row s w)
+pub interrupts_keep : (s : State) (w : ℕ) → Keeps s (interrupts_row s w)
 interrupts_keep s w =
     either (Keeps s) (nat_eq (pulses_of w) 1) _ _ (either (Keeps s) s.interrupts_on _ _ refl refl) (either (Keeps s) (nat_eq (pulses_of w) 2) _ _ refl refl)
 
@@ -81,7 +81,7 @@ read_keeps s n =
     either (Keeps s) (nat_eq n 1) _ _ refl
     (either (Keeps s) (nat_eq n 2) _ _ refl (either (Keeps s) (nat_eq n 3) _ _ refl (either (Keeps s) (nat_eq n 4) _ _ refl refl)))
 
-fields_keep : (s : State) (w : ℕ) → Keeps s (fields_row s w)
+pub fields_keep : (s : State) (w : ℕ) → Keeps s (fields_row s w)
 fields_keep s w =
     either (Keeps s) (nat_eq (pulses_of w) 1) _ _ refl
     (either (Keeps s) (nat_eq (pulses_of w) 2) _ _ refl
@@ -107,7 +107,7 @@ operate_keeps s w =
     (either (λ (r : State × Stepped). Keeps s r.0) (is_group_2 w) _ _ refl refl)
 
 -- what is told of a step that left this
-abbrev IsTold : State → ℕ → ℕ → State × Stepped → Type 0
+abbrev pub IsTold : State → ℕ → ℕ → State × Stepped → Type 0
 IsTold s w cell r = slice_index r.0.core cell ≢ slice_index s.core cell → IsAmong cell (changing_cells s w r.1)
 
 -- an instruction that stores nothing but its pointer
@@ -125,7 +125,7 @@ to_told s w to word cell changed =
 low : (w operation : ℕ) → w / 0o1000 ≡ operation → operation < 6 → nat_lt w 0o6000 ≡ true
 low w operation is small = lt-ltb w 0o6000 (omega (arith, is, small))
 
-executed_told : (s : State) (w cell : ℕ) → IsTold s w cell (after_instruction s w)
+pub executed_told : (s : State) (w cell : ℕ) → IsTold s w cell (after_instruction s w)
 unfolding after_instruction
 executed_told s w cell = elim (eqb_tells (w / 0o1000) 0) [
   | inl h ↦ let e = h.1 in rw (e, low w 0 e (lit< tt), e) (referred_told s w cell)
@@ -169,10 +169,10 @@ step_told s cell =
 -- ## At a terminal
 
 -- the same, but for the Teletype
-abbrev with_teletype : State → TeletypeState → State
+abbrev pub with_teletype : State → TeletypeState → State
 with_teletype s teletype = record s { teletype = teletype }
 
-same_cells : (s : State) (x : TeletypeState) (w : ℕ) (did : Stepped) → changing_cells (with_teletype s x) w did ≡ changing_cells s w did
+pub same_cells : (s : State) (x : TeletypeState) (w : ℕ) (did : Stepped) → changing_cells (with_teletype s x) w did ≡ changing_cells s w did
 same_cells s x w Interrupted = refl
 same_cells s x w Stopped = refl
 same_cells s x w (Ran printed) = refl

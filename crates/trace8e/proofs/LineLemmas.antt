@@ -7,11 +7,11 @@ use Rattle.cpu8e.specs.State.{State8e}
 use Rattle.cpu8.specs.declared.outcomes.Stepped.{Stepped}
 use Rattle.cpu8.specs.declared.outcomes.Stepped.TheVariants.{Stopped, Interrupted, Ran, Halted, Unassigned}
 use Rattle.tape_source.specs.Lines.{with_lead}
-use Rattle.tape_source.specs.Statements.{instruction}
 use Rattle.terminal8e.specs.Terminal.{Terminal, later, next, after_step}
 use Rattle.trace8.specs.Stores.{changing_cells}
-use Rattle.trace8.specs.Trace.{change_text, changes_text, instruction_text, printed_text, step_text}
-use Rattle.trace8e.specs.Trace.{next_line, registers_text, step_line, trace_lines}
+use Rattle.trace8.specs.Trace.{change_text, changes_text, printed_text}
+use Rattle.trace8e.specs.Names.{instruction_of_8e}
+use Rattle.trace8e.specs.Trace.{instruction_text, next_line, registers_text, step_line, step_text, trace_lines}
 use Rattle.trace8.specs.StoresSteps.{change_line, word_at}
 use Rattle.trace8e.specs.StoresSteps.{IsBefore, change_lines, instruction_line, trace_line, step_report}
 use Rattle.trace8e.specs.declared.stores.Before.{Before}
@@ -20,8 +20,8 @@ use Rattle.trace8e.specs.declared.stores.Before.{Before}
 
 told-instruction : (tagged : ℕ → Bool) (s : State) (b : Before) → IsBefore s b → instruction_line tagged b ≡ instruction_text tagged s
 told-instruction tagged s b is =
-    ap (λ c. octal5 c ++ 0o40 ∷ octal4 b.word ++ with_lead 9 (instruction tagged c b.word)) is.cell
-    ∙ ap (λ w. octal5 (next_cell s) ++ 0o40 ∷ octal4 w ++ with_lead 9 (instruction tagged (next_cell s) w)) is.word
+    ap (λ c. octal5 c ++ 0o40 ∷ octal4 b.word ++ with_lead 9 (instruction_of_8e tagged c b.word)) is.cell
+    ∙ ap (λ w. octal5 (next_cell s) ++ 0o40 ∷ octal4 w ++ with_lead 9 (instruction_of_8e tagged (next_cell s) w)) is.word
 
 told-step : (tagged : ℕ → Bool) (s : State) (b : Before) (did : Stepped) → IsBefore s b → step_report tagged b did ≡ step_text tagged s did
 told-step tagged s b Stopped is = told-instruction tagged s b is

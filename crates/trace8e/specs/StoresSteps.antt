@@ -7,10 +7,10 @@ use Rattle.cpu8e.specs.State.{State8e}
 use Rattle.cpu8.specs.declared.outcomes.Stepped.{Stepped}
 use Rattle.cpu8.specs.declared.outcomes.Stepped.TheVariants.{Stopped, Interrupted, Ran, Halted, Unassigned}
 use Rattle.tape_source.specs.Lines.{with_lead}
-use Rattle.tape_source.specs.Statements.{instruction}
 use Rattle.trace8.specs.Stores.{instruction_cells}
 use Rattle.trace8.specs.StoresSteps.{word_at, change_line}
 use Rattle.trace8.specs.Trace.{printed_text}
+use Rattle.trace8e.specs.Names.{instruction_of_8e}
 use Rattle.trace8e.specs.Trace.{registers_text}
 use Rattle.trace8e.specs.declared.stores.Before.{Before}
 
@@ -28,7 +28,7 @@ pub record IsBefore (s : State) (before : Before) : Type 0 where
 -- ## Its line
 
 abbrev pub instruction_line : (ℕ → Bool) → Before → List ℕ
-instruction_line tagged b = octal5 b.cell ++ 0o40 ∷ octal4 b.word ++ with_lead 9 (instruction tagged b.cell b.word)
+instruction_line tagged b = octal5 b.cell ++ 0o40 ∷ octal4 b.word ++ with_lead 9 (instruction_of_8e tagged b.cell b.word)
 
 abbrev pub step_report : (ℕ → Bool) → Before → Stepped → List ℕ
 step_report tagged b Stopped = instruction_line tagged b

@@ -1,13 +1,30 @@
 -- The lines of a trace of the 8/E (this project's profile): a line for each step of a machine at a terminal, the 8/I's with MQ after L.
 use Rattle.std.specs.Prelude.{ℕ, zero, suc, Bool, List, [], ◌∷◌, ◌++◌, codes}
-use Rattle.word12.specs.Octal.{octal4}
+use Rattle.word12.specs.Octal.{octal4, octal5}
+use Rattle.cpu8.specs.State.{State, next_cell}
 use Rattle.cpu8.specs.declared.outcomes.Stepped.{Stepped}
+use Rattle.cpu8.specs.declared.outcomes.Stepped.TheVariants.{Stopped, Interrupted, Ran, Halted, Unassigned}
 use Rattle.cpu8e.specs.State.{State8e}
 use Rattle.cpu8e.specs.Step.{next_word}
+use Rattle.cpu8.specs.Step as Pdp8i
+use Rattle.tape_source.specs.Lines.{with_lead}
 use Rattle.terminal8e.specs.Terminal.{Terminal, later, after_step}
 use Rattle.trace8.specs.Stores.{changing_cells}
-use Rattle.trace8.specs.Trace.{step_text, changes_text, printed_text}
+use Rattle.trace8.specs.Trace.{changes_text, printed_text}
 use Rattle.trace8.specs.Trace as Trace8i
+use Rattle.trace8e.specs.Names.{instruction_of_8e}
+
+-- the cell of the next instruction, its word, and the instruction by its name, where these cells are tagged
+abbrev pub instruction_text : (ℕ → Bool) → State → List ℕ
+instruction_text tagged s = octal5 (next_cell s) ++ 0o40 ∷ octal4 (Pdp8i.next_word s) ++ with_lead 9 (instruction_of_8e tagged (next_cell s) (Pdp8i.next_word s))
+
+-- what the step was: an interrupt, or an instruction
+abbrev pub step_text : (ℕ → Bool) → State → Stepped → List ℕ
+step_text tagged s Stopped = instruction_text tagged s
+step_text tagged s Interrupted = codes "INTERRUPT"
+step_text tagged s (Ran printed) = instruction_text tagged s
+step_text tagged s Halted = instruction_text tagged s
+step_text tagged s (Unassigned word) = instruction_text tagged s
 
 -- AC, L and MQ
 abbrev pub registers_text : State8e → List ℕ

@@ -1,10 +1,20 @@
 //! Laws of traces. Each function does nothing: its contract is the law.
 
-ghost use Rattle.std.specs.Prelude.{◌≡◌, ℕ, ◌+◌, ◌++◌, Bool};
-ghost use Rattle.terminal8e.specs.Terminal.{Terminal, later};
+ghost use Rattle.std.specs.Prelude.{◌≡◌, ◌≢◌, ℕ, ◌+◌, ◌++◌, Bool, slice_index};
+ghost use Rattle.cpu8e.specs.Step.{next_word};
+ghost use Rattle.flow8.specs.Flow.{IsAmong};
+ghost use Rattle.terminal8e.specs.Terminal.{Terminal, later, after_step};
+ghost use Rattle.trace8.specs.Stores.{changing_cells};
 ghost use Rattle.trace8e.specs.Trace.{trace_lines};
 
 use terminal8e::laws::later_steps;
+
+/// A cell whose word a step changes is among those whose changes its line shows.
+pub fn changes_are_told()
+    ensures { (t : Terminal) (cell : ℕ)
+        → slice_index (after_step t).0.base.core cell ≢ slice_index t.machine.base.core cell
+        → IsAmong cell (changing_cells t.machine.base (next_word t.machine) (after_step t).1) }
+{}
 
 /// The lines of steps after others are those of the terminal that the others left.
 pub fn lines_follow_steps()

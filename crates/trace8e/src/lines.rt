@@ -2,18 +2,21 @@
 
 ghost use Rattle.std.specs.Prelude.{◌≡◌, ℕ, ◌++◌, ◌∷◌, OnOk, length};
 ghost use Rattle.word12.specs.declared.sizes.TheConstants.{CORE};
+ghost use Rattle.tape_source.specs.Lines.{with_lead};
 ghost use Rattle.tape_source.specs.Tags.{is_flagged};
 ghost use Rattle.trace8.specs.Trace.{character_text, printed_text};
+ghost use Rattle.trace8e.specs.Names.{instruction_of_8e};
 ghost use Rattle.trace8e.specs.Trace.{registers_text};
 ghost use Rattle.trace8.specs.StoresSteps.{change_line};
 ghost use Rattle.trace8e.specs.StoresSteps.{change_lines, instruction_line, trace_line, step_report};
 
+use crate::names::own_name;
 use crate::stores::Before;
 use core_load::Core;
 use cpu8::Stepped;
 use cpu8e::Machine;
 use std::alloc::AllocError;
-use tape_source::put_instruction;
+use tape_source::{put_instruction, put_piece};
 use word12::{Cell, Word};
 
 /// Appends the line of a step that did this, by what stood before it and the machine after it.
@@ -52,7 +55,7 @@ fn put_step(
     }
 }
 
-/// Appends the cell of an instruction, its word, and the instruction as a source spells it.
+/// Appends the cell of an instruction, its word, and the instruction by its name.
 fn put_row(lines: &mut Vec<u8>, tags: &[bool], before: &Before) -> Result<(), AllocError>
     requires { length tags.now ≡ CORE }
     ensures { OnOk result (lines.new.items ≡ lines.old.items
@@ -62,8 +65,21 @@ fn put_row(lines: &mut Vec<u8>, tags: &[bool], before: &Before) -> Result<(), Al
     let [e, f, g, h] = before.word.octal4();
     let head = [field, a, b, c, d, b' ', e, f, g, h];
     put(lines, &head)?;
-    put_instruction(lines, tags, before.cell, before.word)?;
-    Ok(())
+    put_named(lines, tags, before.cell, before.word)
+}
+
+/// Appends the instruction of a cell's word after a tab: by its name where it is one of the 8/E's own, else as a source of the 8/I
+/// spells it.
+fn put_named(lines: &mut Vec<u8>, tags: &[bool], cell: Cell, word: Word) -> Result<(), AllocError>
+    requires { length tags.now ≡ CORE }
+    ensures { OnOk result (lines.new.items ≡ lines.old.items
+        ++ with_lead 9 (instruction_of_8e (is_flagged tags.now) cell word)) }
+{
+    let name = own_name(word);
+    if name.is_empty() {
+        return put_instruction(lines, tags, cell, word);
+    }
+    put_piece(lines, b'\t', name)
 }
 
 /// Appends AC, L and MQ.
