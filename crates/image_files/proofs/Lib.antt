@@ -1,5 +1,6 @@
 mod AgainLemmas
 mod EndLemmas
+mod HoldLemmas
 pub mod KeepLemmas
 pub mod KindLemmas
 pub mod LeaveLemmas
