@@ -1,6 +1,8 @@
 -- What a command line asks of the program. The words are read as the library `clap` reads them: its own definitions say which words a command
 -- takes, what they mean, and the kinds of error that others meet.
 use Rattle.std.specs.Prelude.{◌≡◌, ◌≢◌, ◌≤◌, ◌<◌, ◌+◌, ⊤, Bool, true, false, if◌then◌else◌, ℕ, codes, List, [], ◌∷◌, ◌++◌, Option, None, Some, Result, Ok, Err, is_some, length, map, IfSome, option_and_then, option_map}
+use Rattle.std.specs.Option.{option_map_or}
+use Rattle.std.specs.Str.{bytes_eq}
 use Rattle.clap.specs.Words.{Row, Text, first_of, fault_of, kind_of, one_of, subcommand_of, IsAmong}
 use Rattle.clap.specs.declared.error.kind.ErrorKind.TheVariants.{OutOfMemory}
 use Rattle.char_pack.specs.declared.forms.GetForm.{GetForm}
@@ -19,6 +21,8 @@ use Rattle.program_tasks.specs.declared.forms.ImageForm.{ImageForm}
 use Rattle.program_tasks.specs.declared.forms.TapeForm.{TapeForm}
 use Rattle.program_tasks.specs.declared.forms.TapeForm.TheVariants.{File, Member}
 use Rattle.program_tasks.specs.declared.forms.TextsForm.{TextsForm}
+use Rattle.program_tasks.specs.declared.tasks.Cpu.{Cpu}
+use Rattle.program_tasks.specs.declared.tasks.Cpu.TheVariants.{EightI, EightE}
 use Rattle.program_tasks.specs.declared.tasks.TraceForm.{TraceForm}
 use Rattle.program_tasks.specs.declared.tasks.RimForm.{RimForm}
 use Rattle.program_tasks.specs.declared.tasks.RimForm.TheVariants.{Lines, Bin}
@@ -86,9 +90,18 @@ abbrev pub IsTapeOrInput : List Row → Option TapeForm → Type 0
 IsTapeOrInput values None = has (codes "TAPE") values ≡ false
 IsTapeOrInput values (Some tape) = IsTape values tape
 
+-- the machine of a name, 8i or 8e
+abbrev pub machine_named : Text → Cpu
+machine_named name = if bytes_eq name (codes "8e") then EightE else EightI
+
+-- the machine that is to run, an 8/I where none is named
+abbrev pub cpu_of : List Row → Cpu
+cpu_of values = option_map_or machine_named (first_of (codes "cpu") values) EightI
+
 -- a tape is traced or profiled so
 abbrev pub IsTraceForm : List Row → TraceForm → Type 0
 IsTraceForm values form = IsTape values form.tape
+    × (form.cpu ≡ cpu_of values)
     × IsReadAs cell_of (first_of (codes "start") values) form.start
     × IsReadAs word_of (first_of (codes "switches") values) form.switches
     × (option_map number_of (one_of (codes "steps") values) ≡ form.steps)
@@ -257,6 +270,7 @@ AsksFor which values (Assemble form) = (which ≡ verb.Assemble) × (source_name
     × (form.has_stays ≡ is_set (codes "stay") values)
     × (form.has_notes ≡ is_set (codes "notes") values)
 AsksFor which values (Teletype form) = (which ≡ verb.Teletype) × IsTape values form.tape
+    × (form.cpu ≡ cpu_of values)
     × IsReadAs cell_of (first_of (codes "start") values) form.start
     × IsReadAs word_of (first_of (codes "switches") values) form.switches
     × (option_map number_of (one_of (codes "steps") values) ≡ form.steps)

@@ -3,6 +3,7 @@ ghost use Rattle.std.specs.Prelude.{◌≡◌, ◌∷◌, [], ℕ, List, codes, 
 ghost use Rattle.clap.specs.Words.{IsUnsignedIn};
 ghost use Rattle.program_tasks.specs.Names.{volume_named};
 ghost use Rattle.program_tasks.specs.declared.archives.LineForm.TheVariants.{Columns, Json};
+ghost use Rattle.program_tasks.specs.declared.tasks.Cpu.TheVariants.{EightI, EightE};
 ghost use Rattle.program_tasks.specs.declared.tasks.RimForm.TheVariants.{Lines, Bin};
 ghost use Rattle.program_tasks.specs.declared.tasks.Saving.TheVariants.{AtEnd, Never, Always};
 ghost use Rattle.char_pack.specs.declared.forms.GetForm.TheVariants as get_as;
@@ -11,8 +12,8 @@ ghost use Rattle.disk_layouts.specs.declared.layouts.Layout.TheVariants.{First, 
 ghost use Rattle.word12.specs.declared.sizes.TheConstants.{MOST_BLOCKS};
 ghost use Rattle.command_table.specs.Found.{capitals, layout_of, name_in, names_in, wait_of};
 ghost use Rattle.command_line.specs.Plain.{AreTaken, IsTaken, after, alone, only_gives, in_place, with_value};
-ghost use Rattle.command_refusals.specs.Refusals.{refusal_of, together};
-ghost use Rattle.command_line.specs.Tasks.{get_form, line_form, put_form, rim_form, saving_of};
+ghost use Rattle.command_refusals.specs.Refusals.{refusal_of, together, value};
+ghost use Rattle.command_line.specs.Tasks.{cpu_of, get_form, line_form, put_form, rim_form, saving_of};
 ghost use Rattle.command_table.specs.declared.table.Verb.TheVariants as verb;
 
 /// A law: plain command lines are taken, and give their arguments what they say, and nothing else: each option is read at its own place. So
@@ -72,11 +73,11 @@ pub fn plain_words()
         (with_value (codes "from") other ∷ in_place (codes "FILE") file ∷ []) ∷
         (with_value (codes "from") other ∷ in_place (codes "FILE") file ∷ with_value (codes "onto") text ∷ []) ∷ []) }
     ensures teletype { (tape text : List ℕ) → AreTaken (codes "teletype") (after (in_place (codes "TAPE") tape) ([] ∷
-        (in_place (codes "NAME") text ∷ []) ∷ (with_value (codes "start") text ∷ []) ∷ [])) }
+        (in_place (codes "NAME") text ∷ []) ∷ (with_value (codes "start") text ∷ []) ∷ (with_value (codes "cpu") text ∷ []) ∷ [])) }
     ensures trace { (tape text : List ℕ) → AreTaken (codes "trace") (after (in_place (codes "TAPE") tape) ([] ∷
-        (in_place (codes "NAME") text ∷ []) ∷ (with_value (codes "keys") text ∷ []) ∷ [])) }
+        (in_place (codes "NAME") text ∷ []) ∷ (with_value (codes "keys") text ∷ []) ∷ (with_value (codes "cpu") text ∷ []) ∷ [])) }
     ensures profile { (tape text : List ℕ) → AreTaken (codes "profile") (after (in_place (codes "TAPE") tape) ([] ∷
-        (in_place (codes "NAME") text ∷ []) ∷ (with_value (codes "keys") text ∷ []) ∷ [])) }
+        (in_place (codes "NAME") text ∷ []) ∷ (with_value (codes "keys") text ∷ []) ∷ (with_value (codes "cpu") text ∷ []) ∷ [])) }
     ensures check { (image text : List ℕ) → AreTaken (codes "check") (after (in_place (codes "IMAGE") image) ([] ∷
         (in_place (codes "IMAGE") text ∷ []) ∷ (alone (codes "all") ∷ []) ∷ (with_value (codes "volume") text ∷ []) ∷
         (alone (codes "dectape") ∷ []) ∷ (alone (codes "all") ∷ alone (codes "lenient") ∷ []) ∷ [])) }
@@ -117,6 +118,11 @@ pub fn options()
         × (volume_named None (codes "disk.rk05:2") ≡ (codes "disk.rk05", Some Second))
         × (volume_named None (codes "disk.rk05:3") ≡ (codes "disk.rk05:3", None)) × (volume_named None (codes ":1") ≡ (codes ":1", None))
         × (volume_named (Some Second) (codes "disk.rk05:1") ≡ (codes "disk.rk05:1", Some Second)) }
+    ensures cpu { (cpu_of (only_gives (codes "trace") []) ≡ EightI)
+        × (cpu_of (only_gives (codes "trace") (with_value (codes "cpu") (codes "8i") ∷ [])) ≡ EightI)
+        × (cpu_of (only_gives (codes "trace") (with_value (codes "cpu") (codes "8e") ∷ [])) ≡ EightE) }
+    ensures no_cpu { refusal_of verb.Trace (only_gives (codes "trace") (with_value (codes "cpu") (codes "8a") ∷ []))
+        ≡ Some (value (codes "--cpu <CPU>") (codes "not 8i or 8e") (codes "8a")) }
     ensures wait { (wait_of (only_gives (codes "squeeze") []) ≡ 0)
         × (wait_of (only_gives (codes "squeeze") (with_value (codes "wait") (codes "30") ∷ [])) ≡ 30) }
     ensures names { (file other : List ℕ) → (name_in (codes "NAME") (only_gives (codes "tape") (in_place (codes "NAME") file ∷ [])) ≡ Some (capitals file))

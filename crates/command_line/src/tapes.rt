@@ -14,10 +14,10 @@ use crate::volumes::{changed_image, image_of};
 use clap::ArgMatches;
 use command_table::{
     Read, Verb, cell_of, cells_of, count_of, flag, has, name_if_given, name_of, names_of, octal_of,
-    value_if_given, value_of, values_of,
+    text_of, value_if_given, value_of, values_of,
 };
 use program_tasks::{
-    AssembleForm, ImageForm, RimForm, SourceForm, TapeForm, Task, TeletypeForm, TraceForm,
+    AssembleForm, Cpu, ImageForm, RimForm, SourceForm, TapeForm, Task, TeletypeForm, TraceForm,
 };
 use std::alloc::Global;
 
@@ -181,6 +181,7 @@ pub fn teletype(alloc: Global, found: &ArgMatches<'_>) -> Read<Task>
 {
     Ok(Task::Teletype(TeletypeForm {
         tape: tape_of(alloc, found, Verb::Teletype)?,
+        cpu: cpu_of(found, Verb::Teletype),
         start: cell_of(found, Verb::Teletype, "start"),
         switches: octal_of(found, Verb::Teletype, "switches"),
         steps: count_of(found, Verb::Teletype, "steps"),
@@ -199,9 +200,31 @@ pub fn trace_form(alloc: Global, found: &ArgMatches<'_>) -> Read<TraceForm>
     let keys = value_if_given(alloc, found, Verb::Trace, "keys")?;
     Ok(TraceForm {
         tape,
+        cpu: cpu_of(found, Verb::Trace),
         start: cell_of(found, Verb::Trace, "start"),
         switches: octal_of(found, Verb::Trace, "switches"),
         steps: count_of(found, Verb::Trace, "steps"),
         keys,
     })
+}
+
+/// The machine that is to run, an 8/I where none is named.
+fn cpu_of(found: &ArgMatches<'_>, _verb: Verb) -> Cpu
+    requires { kind_at (codes "cpu") (rows_for _verb) ≡ Some (kind.One form.Cpu) }
+    ensures { result ≡ spec.cpu_of (values_in found.now) }
+{
+    match text_of(found, "cpu") {
+        Some(text) => machine_named(text),
+        None => Cpu::EightI,
+    }
+}
+
+/// The machine of a name, 8i or 8e.
+fn machine_named(name: &str) -> Cpu
+    ensures { result ≡ spec.machine_named name.now }
+{
+    if name == "8e" {
+        return Cpu::EightE;
+    }
+    Cpu::EightI
 }

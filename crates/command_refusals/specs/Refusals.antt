@@ -10,7 +10,7 @@ use Rattle.command_refusals.specs.declared.refusals.Refusal.TheVariants as refus
 use Rattle.command_refusals.specs.declared.refusals.What.{What}
 use Rattle.command_refusals.specs.declared.refusals.What.TheVariants as what
 use Rattle.command_table.specs.declared.table.Form.{Form}
-use Rattle.command_table.specs.declared.table.Form.TheVariants.{Text as a_text, Cell, Octal, Volume, Block, Seconds, Span, Index, Bits, Date, Year}
+use Rattle.command_table.specs.declared.table.Form.TheVariants.{Text as a_text, Cell, Octal, Volume, Cpu, Block, Seconds, Span, Index, Bits, Date, Year}
 use Rattle.command_table.specs.declared.table.Kind.{Kind}
 use Rattle.command_table.specs.declared.table.Kind.TheVariants as kind
 use Rattle.command_table.specs.declared.table.Verb.{Verb}
@@ -231,6 +231,7 @@ why a_text = codes "not a text"
 why Cell = codes "not a cell, 0 to 77777 in octal, or F:AAAA"
 why Octal = codes "not a word, 0 to 7777 in octal"
 why Volume = codes "not 1 or 2"
+why Cpu = codes "not 8i or 8e"
 why Block = codes "not a block, 0 to 4095"
 why Seconds = codes "not a number of seconds, 0 to 3600"
 why Span = codes "not a block, 0 to 4095, nor two with a hyphen between, the lower first"

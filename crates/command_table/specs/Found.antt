@@ -7,7 +7,7 @@ use Rattle.clap.specs.Words.{Row, Text, all_of, first_of}
 use Rattle.command_table.specs.declared.table.Kind.{Kind}
 use Rattle.command_table.specs.declared.table.Kind.TheVariants.{Value, One, Many}
 use Rattle.command_table.specs.declared.table.Form.{Form}
-use Rattle.command_table.specs.declared.table.Form.TheVariants.{Text as a_text, Cell, Octal, Volume, Block, Seconds, Span, Index, Bits, Date as a_date, Year}
+use Rattle.command_table.specs.declared.table.Form.TheVariants.{Text as a_text, Cell, Octal, Volume, Cpu, Block, Seconds, Span, Index, Bits, Date as a_date, Year}
 use Rattle.word12.specs.Octal.{octal_of}
 use Rattle.os8_dates.specs.Dates.{word_of as word_of_date}
 use Rattle.os8_dates.specs.declared.dates.Date.{Date}
@@ -179,6 +179,7 @@ passes a_text text = true
 passes Cell text = is_some (cell_of text)
 passes Octal text = is_some (word_of text)
 passes Volume text = bytes_eq text (codes "1") || bytes_eq text (codes "2")
+passes Cpu text = bytes_eq text (codes "8i") || bytes_eq text (codes "8e")
 passes Block text = is_some (place_of text)
 passes Seconds text = is_some (number_in 0 3600 text)
 passes Span text = is_some (span_of text)

@@ -77,6 +77,7 @@ pub const ASSEMBLE: &[Argument] = rows! {
 pub const TELETYPE: &[Argument] = rows! {
     "TAPE" must Kind::Word, "", "The file of the tape, or of the image that holds NAME";
     "NAME" may Kind::Word, "", "The name of the file on the volume";
+    "cpu" option Kind::One(Form::Cpu), "CPU", "The machine, 8i or 8e; else 8i";
     "start" option Kind::One(Form::Cell), "FAAAA", "The cell to start at, in octal, as 10200 or 1:0200; else 00200 if the tape has that cell, else its first word's";
     "switches" option Kind::One(Form::Octal), "WWWW", "The word that the switches are set to, in octal; else 0000";
     "steps" option Kind::Count, "N", "The most instructions that are done, 1 up; without it there is no limit";
@@ -91,6 +92,7 @@ pub const TELETYPE: &[Argument] = rows! {
 pub const TRACE: &[Argument] = rows! {
     "TAPE" must Kind::Word, "", "The file of the tape, or of the image that holds NAME";
     "NAME" may Kind::Word, "", "The name of the file on the volume";
+    "cpu" option Kind::One(Form::Cpu), "CPU", "The machine, 8i or 8e; else 8i";
     "start" option Kind::One(Form::Cell), "FAAAA", "The cell to start at, in octal, as 10200 or 1:0200; else 00200 if the tape has that cell, else its first word's";
     "switches" option Kind::One(Form::Octal), "WWWW", "The word that the switches are set to, in octal; else 0000";
     "steps" option Kind::Count, "N", "The most steps that are made, 1 up";

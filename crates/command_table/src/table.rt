@@ -23,6 +23,9 @@ pub enum Form {
     /// The number of a disk's volume, 1 or 2.
     Volume,
 
+    /// A machine, 8i or 8e.
+    Cpu,
+
     /// A block, 0 to 4095.
     Block,
 

@@ -44,6 +44,10 @@ core_text core.Memory = codes "? 10 MEMORY"
 abbrev pub halted_text : ℕ → ℕ → ℕ → List ℕ
 halted_text cell ac l = codes "HALT " ++ octal5 cell ++ codes " AC " ++ octal4 ac ++ codes " L " ++ octal_digit l ∷ []
 
+-- and MQ, on a machine that has one
+abbrev pub halted_with_mq_text : ℕ → ℕ → ℕ → ℕ → List ℕ
+halted_with_mq_text cell ac l mq = halted_text cell ac l ++ codes " MQ " ++ octal4 mq
+
 abbrev pub why_text : TerminalEnd → List ℕ
 why_text why.Halt = codes "HALT"
 why_text why.Unassigned = codes "UNASSIGNED"
@@ -104,6 +108,7 @@ program_text line.TwoReadings = codes "? KIND 1 TWO READINGS"
 program_text line.OtherKind = codes "? KIND 2 OTHER KIND"
 program_text line.NothingToRun = codes "? TELETYPE 1 NO WORD"
 program_text (line.Halted cell ac l) = halted_text cell ac l
+program_text (line.HaltedWithMq cell ac l mq) = halted_with_mq_text cell ac l mq
 program_text (line.Unassigned cell word) = codes "UNASSIGNED " ++ octal5 cell ++ codes " " ++ octal4 word
 program_text (line.KeysEnd cell) = codes "KEYS END " ++ octal5 cell
 program_text (line.Limit cell) = codes "LIMIT " ++ octal5 cell

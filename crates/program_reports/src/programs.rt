@@ -96,8 +96,11 @@ pub enum ProgramLine {
     /// The tape gives no cell a word, so there is nothing to run.
     NothingToRun,
 
-    /// A machine at a terminal halted before this cell, with this AC and L.
+    /// An 8/I at a terminal halted before this cell, with this AC and L.
     Halted(Cell, Word, u8),
+
+    /// An 8/E at a terminal halted before this cell, with this AC, L and MQ.
+    HaltedWithMq(Cell, Word, u8, Word),
 
     /// A machine at a terminal met a word in a cell that is unassigned.
     Unassigned(Cell, Word),
@@ -201,6 +204,11 @@ fn put_line(text: &mut TextLine, line: ProgramLine)
         ProgramLine::OtherKind => put(text, b"? KIND 2 OTHER KIND"),
         ProgramLine::NothingToRun => put(text, b"? TELETYPE 1 NO WORD"),
         ProgramLine::Halted(cell, ac, l) => put_halted(text, cell, ac, l),
+        ProgramLine::HaltedWithMq(cell, ac, l, mq) => {
+            put_halted(text, cell, ac, l);
+            put(text, b" MQ ");
+            put(text, &mq.octal4());
+        }
         ProgramLine::Unassigned(cell, word) => {
             put(text, b"UNASSIGNED ");
             put_cell(text, cell);
@@ -268,7 +276,7 @@ fn disk_words(fault: DiskFault) -> &'static [u8]
 fn put_halted(text: &mut TextLine, cell: Cell, ac: Word, l: u8)
     requires { array_vec_len text.old ≡ 0 }
     ensures text { text.new.items ≡ text.old.items ++ halted_text cell ac l }
-    ensures short { array_vec_len text.new ≤ 60 }
+    ensures short { array_vec_len text.new ≤ 40 }
 {
     put(text, b"HALT ");
     put_cell(text, cell);

@@ -14,5 +14,5 @@ pub use forms::{
 };
 pub use names::volume_named;
 pub use tasks::{
-    AssembleForm, RimForm, RunForm, Saving, SourceForm, Task, TeletypeForm, TraceForm,
+    AssembleForm, Cpu, RimForm, RunForm, Saving, SourceForm, Task, TeletypeForm, TraceForm,
 };

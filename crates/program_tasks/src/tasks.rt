@@ -96,11 +96,23 @@ pub struct SourceForm {
     pub is_pal8: bool,
 }
 
+/// Which machine runs a program.
+#[derive(Clone, Copy, PartialEq, Eq, Debug)]
+pub enum Cpu {
+    /// A PDP-8/I.
+    EightI,
+
+    /// A PDP-8/E.
+    EightE,
+}
+
 /// How the processor runs with the Teletype that the terminal is (this project's profile).
 #[derive(Drop)]
 pub struct TeletypeForm {
     /// The program's tape or core image.
     pub tape: TapeForm,
+
+    pub cpu: Cpu,
 
     /// The cell at which the processor starts, if one is given.
     pub start: Option<Cell>,
@@ -120,6 +132,8 @@ pub struct TeletypeForm {
 pub struct TraceForm {
     /// The program's tape or core image.
     pub tape: TapeForm,
+
+    pub cpu: Cpu,
 
     /// The cell at which the processor starts, if one is given.
     pub start: Option<Cell>,

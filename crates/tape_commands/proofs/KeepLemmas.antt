@@ -3,12 +3,10 @@ use Rattle.std.proofs.Common.{◌≡◌, ◌∙◌, ℕ, Bool, true, false, nat_
 use Rattle.bin_tape.specs.Items.{Item, words_of}
 use Rattle.bin_tape.specs.Tape.{IsTape}
 use Rattle.byte_reader.specs.Readings.{Reading}
-use Rattle.cpu8.specs.State.{State, next_cell}
 use Rattle.hosts.specs.Event.{Event}
 use Rattle.hosts.specs.Place.{about}
 use Rattle.hosts.specs.declared.faults.PrintFault.{PrintFault}
 use Rattle.host_output.specs.Printing.{HasPrinted}
-use Rattle.terminal8.specs.Terminal.{Terminal}
 use Rattle.terminal8.specs.declared.outcomes.Ended.{Ended}
 use Rattle.terminal8.specs.declared.outcomes.TerminalFault.{TerminalFault}
 use Rattle.terminal8.specs.declared.outcomes.TerminalFault.TheVariants.{Reader, Writer}
@@ -19,6 +17,8 @@ use Rattle.tape_reports.specs.Starts.{first_cell, start_cell}
 use Rattle.program_reports.specs.declared.programs.ProgramLine.{ProgramLine}
 use Rattle.program_reports.specs.declared.programs.ProgramLine.TheVariants.{Start, Steps}
 use Rattle.program_tasks.specs.declared.forms.TapeForm.{TapeForm}
+use Rattle.program_tasks.specs.declared.tasks.Cpu.{Cpu}
+use Rattle.program_tasks.specs.declared.tasks.Cpu.TheVariants.{EightI, EightE}
 use Rattle.program_tasks.specs.declared.tasks.TeletypeForm.{TeletypeForm}
 use Rattle.program_tasks.specs.declared.tasks.TraceForm.{TraceForm}
 use Rattle.outcome.specs.Endings.{ending_of_tape}
@@ -34,12 +34,18 @@ use Rattle.image_files.specs.Saving.{Prints}
 use Rattle.image_files.specs.Work.{Then, Purely}
 use Rattle.program_commands.specs.Kinds.{RefusesFrames}
 use Rattle.program_commands.specs.Programs.{ReadsProgram}
+use Rattle.tape_commands.specs.CorePrograms.{FindsStart, LoadsCore, LoadsProgram, StartsAt, StartsIf, TellsCell, TellsStart, program_in}
 use Rattle.tape_commands.specs.Lines.{IsJust, TellsProgram}
-use Rattle.tape_commands.specs.Machines.{FindsStart, LoadsCore, Stands, StartsAt, StartsIf, TellsCell, TellsStart, machine_at}
-use Rattle.tape_commands.specs.Profiles.{GivesProfile, ProfilesTape}
-use Rattle.tape_commands.specs.Runs.{IsReady, ReadsRun, start_or, terminal_of}
-use Rattle.tape_commands.specs.Teletypes.{EndsRun, IsEndOf, ReadsMachine, RunsMachine, RunsTeletype, line_of_end}
-use Rattle.tape_commands.specs.Traces.{EndsTrace, TracesSteps, TracesTape}
+use Rattle.tape_commands.specs.Machines8i as pdp8i
+use Rattle.tape_commands.specs.Machines8e as pdp8e
+use Rattle.tape_commands.specs.Printing.{EndsRun, EndsTrace, IsEndOf, PrintsRun, PrintsTrace, line_of_end}
+use Rattle.tape_commands.specs.Profiles.{ProfileOn, ProfilesTape}
+use Rattle.tape_commands.specs.Runs.{IsReady, ReadsRun, start_or}
+use Rattle.tape_commands.specs.Teletypes.{ReadsProgramOf, RunsOn, RunsTeletype}
+use Rattle.tape_commands.specs.Traces.{TracesOn, TracesTape}
+use Rattle.tape_commands.specs.declared.core_programs.CoreProgram.{CoreProgram}
+use Rattle.tape_commands.specs.declared.printing.Stand.{Stand}
+use Rattle.tape_commands.specs.declared.runs.Run.{Run}
 
 tells-keeps : (path : List ℕ) (note : Option PlainNote) (old new : List Event) → Tells note old new → about path new ≡ about path old
 tells-keeps path None old new p = same path p
@@ -86,50 +92,58 @@ module _
     loads-keeps frames old (Err ending) new (inl p) path = same path p.1
     loads-keeps frames old (Err ending) new (inr (why, loads, p)) path = frames-keeps frames (ending_of_tape why) old ending new p path
 
-    stands-keeps : (frames : List ℕ) (given switches : Option ℕ) → KeepsFiles (Stands frames given switches)
-    stands-keeps frames given switches old (Ok machine) new (inl ends) path = absurd ends
-    stands-keeps frames given switches old (Err ending) new (inl ends) path = loads-keeps frames old (Err ending) new ends path
-    stands-keeps frames given switches old result new (inr it) path =
-        then-keeps (FindsStart frames given) (λ start. Purely (IsJust (machine_at it.given switches start))) (finds-keeps frames given it.done.0.items it.done.0.is_tape)
-        (λ start. purely-keeps (IsJust (machine_at it.given switches start))) it.between result new it.after path ∙ same path it.done.1
+    program-loads : (frames : List ℕ) (given switches : Option ℕ) → KeepsFiles (LoadsProgram frames given switches)
+    program-loads frames given switches old (Ok program) new (inl ends) path = absurd ends
+    program-loads frames given switches old (Err ending) new (inl ends) path = loads-keeps frames old (Err ending) new ends path
+    program-loads frames given switches old result new (inr it) path =
+        then-keeps (FindsStart frames given) (λ start. Purely (IsJust (program_in it.given switches start))) (finds-keeps frames given it.done.0.items it.done.0.is_tape)
+        (λ start. purely-keeps (IsJust (program_in it.given switches start))) it.between result new it.after path ∙ same path it.done.1
 
     run-keeps : (form : TraceForm) → KeepsFiles (ReadsRun form)
-    run-keeps form = then-keeps (ReadsProgram form.tape) (λ program. Then (Stands program.frames.items (start_or form.start program.start) form.switches) (λ machine. Purely (IsReady form program.frames.items machine)))
-        (program-keeps form.tape) (λ program. then-keeps (Stands program.frames.items (start_or form.start program.start) form.switches) (λ machine. Purely (IsReady form program.frames.items machine))
-        (stands-keeps program.frames.items (start_or form.start program.start) form.switches) (λ machine. purely-keeps (IsReady form program.frames.items machine)))
+    run-keeps form = then-keeps (ReadsProgram form.tape) (λ tape. Then (LoadsProgram tape.frames.items (start_or form.start tape.start) form.switches) (λ program. Purely (IsReady form tape.frames.items program)))
+        (program-keeps form.tape) (λ tape. then-keeps (LoadsProgram tape.frames.items (start_or form.start tape.start) form.switches) (λ program. Purely (IsReady form tape.frames.items program))
+        (program-loads tape.frames.items (start_or form.start tape.start) form.switches) (λ program. purely-keeps (IsReady form tape.frames.items program)))
 
     -- ## The commands
 
     pub profile-keeps : (form : TraceForm) → KeepsFiles (ProfilesTape form)
-    profile-keeps form = then-keeps (ReadsRun form) (λ run. Then (Purely (GivesProfile (unwrap_or form.steps 1000000) (terminal_of run) run.flags.items)) (λ text. Prints text.items)) (run-keeps form)
-        (λ run. then-keeps (Purely (GivesProfile (unwrap_or form.steps 1000000) (terminal_of run) run.flags.items)) (λ text. Prints text.items) (purely-keeps (GivesProfile (unwrap_or form.steps 1000000) (terminal_of run) run.flags.items)) (λ text. prints-keeps text.items))
+    profile-keeps form = then-keeps (ReadsRun form) (λ run. Then (Purely (ProfileOn form.cpu (unwrap_or form.steps 1000000) run)) (λ text. Prints text.items)) (run-keeps form)
+        (λ run. then-keeps (Purely (ProfileOn form.cpu (unwrap_or form.steps 1000000) run)) (λ text. Prints text.items) (purely-keeps (ProfileOn form.cpu (unwrap_or form.steps 1000000) run)) (λ text. prints-keeps text.items))
 
-    trace-ends : (after : Terminal) (why : Option PrintFault) (done : Result Ended TraceFault) → KeepsFiles (EndsTrace after why done)
-    trace-ends after why (Ok ended) old result new p path = then-keeps (Purely (AreLines (program_line (Steps ended (next_cell after.machine))))) (λ line. Prints line.items)
-        (purely-keeps (AreLines (program_line (Steps ended (next_cell after.machine))))) (λ line. prints-keeps line.items) old result new p path
-    trace-ends after why (Err trace.Memory) old result new p path = same path p.1
-    trace-ends after why (Err trace.Writer) old result new p path = same path p.1
+    trace-ends : (cell : ℕ) (why : Option PrintFault) (done : Result Ended TraceFault) → KeepsFiles (EndsTrace cell why done)
+    trace-ends cell why (Ok ended) old result new p path = then-keeps (Purely (AreLines (program_line (Steps ended cell)))) (λ line. Prints line.items)
+        (purely-keeps (AreLines (program_line (Steps ended cell)))) (λ line. prints-keeps line.items) old result new p path
+    trace-ends cell why (Err trace.Memory) old result new p path = same path p.1
+    trace-ends cell why (Err trace.Writer) old result new p path = same path p.1
 
-    traces-keeps : (most : ℕ) (t : Terminal) (flags : List Bool) → KeepsFiles (TracesSteps most t flags)
-    traces-keeps most t flags old result new p path = trace-ends p.after p.fault p.done p.between result new p.ends path ∙ output-keeps old p.between p.fault path p.prints
+    prints-trace : (traces_to : ℕ → Option (List ℕ) → Option (List ℕ) → Result Ended TraceFault → Type 0) → KeepsFiles (PrintsTrace traces_to)
+    prints-trace traces_to old result new p path = trace-ends p.cell p.fault p.done p.between result new p.ends path ∙ output-keeps old p.between p.fault path p.prints
+
+    traces-on : (cpu : Cpu) (most : ℕ) (run : Run) → KeepsFiles (TracesOn cpu most run)
+    traces-on EightI most run = prints-trace (pdp8i.TracesTo most (pdp8i.terminal_of run) run.flags.items)
+    traces-on EightE most run = prints-trace (pdp8e.TracesTo most (pdp8e.terminal_of run) run.flags.items)
 
     pub trace-keeps : (form : TraceForm) → KeepsFiles (TracesTape form)
-    trace-keeps form = then-keeps (ReadsRun form) (λ run. TracesSteps (unwrap_or form.steps 1000) (terminal_of run) run.flags.items) (run-keeps form) (λ run. traces-keeps (unwrap_or form.steps 1000) (terminal_of run) run.flags.items)
+    trace-keeps form = then-keeps (ReadsRun form) (λ run. TracesOn form.cpu (unwrap_or form.steps 1000) run) (run-keeps form) (λ run. traces-on form.cpu (unwrap_or form.steps 1000) run)
 
-    machine-keeps : (form : TeletypeForm) → KeepsFiles (ReadsMachine form)
-    machine-keeps form = then-keeps (ReadsProgram form.tape) (λ program. Stands program.frames.items (start_or form.start program.start) form.switches)
-        (program-keeps form.tape) (λ program. stands-keeps program.frames.items (start_or form.start program.start) form.switches)
+    program-reads : (form : TeletypeForm) → KeepsFiles (ReadsProgramOf form)
+    program-reads form = then-keeps (ReadsProgram form.tape) (λ tape. LoadsProgram tape.frames.items (start_or form.start tape.start) form.switches)
+        (program-keeps form.tape) (λ tape. program-loads tape.frames.items (start_or form.start tape.start) form.switches)
 
-    run-ends : (after : State) (why : Option PrintFault) (done : Result Ended TerminalFault) → KeepsFiles (EndsRun after why done)
-    run-ends after why (Ok ended) old result new p path = then-keeps (TellsProgram (line_of_end after ended.why)) (λ it. Purely (IsEndOf ended.why)) (program-line-keeps (line_of_end after ended.why)) (λ it. purely-keeps (IsEndOf ended.why))
+    run-ends : (stand : Stand) (why : Option PrintFault) (done : Result Ended TerminalFault) → KeepsFiles (EndsRun stand why done)
+    run-ends stand why (Ok ended) old result new p path = then-keeps (TellsProgram (line_of_end stand ended.why)) (λ it. Purely (IsEndOf ended.why)) (program-line-keeps (line_of_end stand ended.why)) (λ it. purely-keeps (IsEndOf ended.why))
         old result new p path
-    run-ends after why (Err Reader) old result new p path = same path p.1
-    run-ends after why (Err Writer) old result new p path = same path p.1
+    run-ends stand why (Err Reader) old result new p path = same path p.1
+    run-ends stand why (Err Writer) old result new p path = same path p.1
 
-    runs-keeps : (form : TeletypeForm) (machine : State) (keys : Reading) → KeepsFiles (RunsMachine form machine keys)
-    runs-keeps form machine keys old result new p path = run-ends p.after p.fault p.done p.between result new p.ends path ∙ output-keeps old p.between p.fault path p.prints
+    prints-run : (runs_to : Stand → Option (List ℕ) → Option (List ℕ) → Result Ended TerminalFault → Type 0) (keys : Reading) → KeepsFiles (PrintsRun runs_to keys)
+    prints-run runs_to keys old result new p path = run-ends p.stand p.fault p.done p.between result new p.ends path ∙ output-keeps old p.between p.fault path p.prints
+
+    runs-on : (cpu : Cpu) (form : TeletypeForm) (program : CoreProgram) (keys : Reading) → KeepsFiles (RunsOn cpu form program keys)
+    runs-on EightI form program keys = prints-run (pdp8i.RunsTo form program keys) keys
+    runs-on EightE form program keys = prints-run (pdp8e.RunsTo form program keys) keys
 
     pub teletype-keeps : (form : TeletypeForm) (keys : Reading) → KeepsFiles (RunsTeletype form keys)
     teletype-keeps form keys old (Ok it) new (inl p) path = absurd p.0
-    teletype-keeps form keys old (Err ending) new (inl p) path = machine-keeps form old (Err ending) new p.0 path
-    teletype-keeps form keys old result new (inr it) path = runs-keeps form it.given keys it.between result new it.after path ∙ machine-keeps form old (Ok it.given) it.between it.done path
+    teletype-keeps form keys old (Err ending) new (inl p) path = program-reads form old (Err ending) new p.0 path
+    teletype-keeps form keys old result new (inr it) path = runs-on form.cpu form it.given keys it.between result new it.after path ∙ program-reads form old (Ok it.given) it.between it.done path

@@ -1,5 +1,9 @@
 pub mod Lines
-pub mod Machines
+pub mod CorePrograms
+pub mod Inputs
+pub mod Machines8e
+pub mod Machines8i
+pub mod Printing
 pub mod Profiles
 pub mod RunSteps
 pub mod Runs

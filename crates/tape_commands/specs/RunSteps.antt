@@ -1,8 +1,12 @@
--- The cells to which a tape gives a word, on the way to a run. No contract of a public function cites these.
-use Rattle.std.specs.Prelude.{◌≡◌, ℕ, Bool, Result, Ok, Err, List}
+-- The cells to which a tape gives a word, and the text of counts. No contract of a public function cites these.
+use Rattle.std.specs.Prelude.{◌≡◌, ℕ, Bool, Result, Ok, Err, List, ◌++◌}
 use Rattle.std.specs.Global.{Vec}
+use Rattle.terminal8.specs.declared.outcomes.Ended.{Ended}
+use Rattle.profile8.specs.Profile.{IsProfile, is_flagged}
 use Rattle.script8.specs.declared.faults.SessionFault.TheVariants.{Memory}
 use Rattle.tape_reports.specs.Given.{AreGiven}
+use Rattle.program_reports.specs.Program.{program_line}
+use Rattle.program_reports.specs.declared.programs.ProgramLine.TheVariants.{Steps}
 use Rattle.outcome.specs.declared.endings.Ending.{Ending}
 use Rattle.outcome.specs.declared.endings.Ending.TheVariants.{Fault}
 
@@ -10,3 +14,8 @@ use Rattle.outcome.specs.declared.endings.Ending.TheVariants.{Fault}
 abbrev pub AreFlags : List ℕ → Result (Vec Bool) Ending → Type 0
 AreFlags frames (Ok flags) = AreGiven frames flags.items
 AreFlags frames (Err ending) = ending ≡ Fault Memory
+
+-- the profile of these counts, and the line of their end, unless memory is wanted for them
+abbrev pub ShowsCounts : List ℕ → List Bool → Ended → ℕ → Result (Vec ℕ) Ending → Type 0
+ShowsCounts counts flags ended cell (Ok text) = (profile : List ℕ) × IsProfile counts (is_flagged flags) profile × (text.items ≡ profile ++ program_line (Steps ended cell))
+ShowsCounts counts flags ended cell (Err ending) = ending ≡ Fault Memory

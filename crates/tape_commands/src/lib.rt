@@ -1,9 +1,13 @@
 //! The commands that run the program of a tape, over any host: what is read, which machine runs, and what each stream gets.
 #![tactic(auto)]
 
+mod core_programs;
+mod inputs;
 pub mod laws;
 mod lines;
-mod machines;
+mod machines8e;
+mod machines8i;
+mod printing;
 mod profiles;
 mod runs;
 mod teletypes;

@@ -5,9 +5,8 @@ ghost use Rattle.bin_tape.specs.Tape.{IsTape};
 ghost use Rattle.tape_commands.specs.RunSteps.{AreFlags};
 ghost use Rattle.tape_commands.specs.Runs as spec;
 
-use crate::machines::machine_of;
+use crate::core_programs::{CoreProgram, core_program};
 use bin_tape::laws::no_fault;
-use cpu8::Machine;
 use hosts::Host;
 use outcome::Ending;
 use program_commands::program_of;
@@ -17,15 +16,15 @@ use tape_reports::given_cells;
 use terminal8::{Form, keys_of};
 use word12::Cell;
 
-/// A machine that stands at the start of a program, the keys that are struck at it, and which cells the program's tape gives a word.
+/// A program, the keys that are struck at its machine, and which cells its tape gives a word.
 #[derive(Drop)]
 pub(crate) struct Run {
-    pub(crate) machine: Machine,
+    pub(crate) program: CoreProgram,
     pub(crate) keys: Vec<u8>,
     pub(crate) flags: Vec<bool>,
 }
 
-/// Reads a program, and starts its machine.
+/// Reads a program into core.
 pub(crate) fn read_run<H: Host>(
     host: &mut H,
     alloc: Global,
@@ -33,25 +32,25 @@ pub(crate) fn read_run<H: Host>(
 ) -> Result<Run, Ending>
     ensures { spec.ReadsRun form.now (H.history host.old) result (H.history host.new) }
 {
-    let program = program_of(host, alloc, &form.tape)?;
-    let start = start_or(form.start, program.start);
-    let machine = machine_of(host, alloc, &program.frames, start, form.switches)?;
-    ready_run(alloc, form, &program.frames, machine)
+    let tape = program_of(host, alloc, &form.tape)?;
+    let start = start_or(form.start, tape.start);
+    let program = core_program(host, alloc, &tape.frames, start, form.switches)?;
+    ready_run(alloc, form, &tape.frames, program)
 }
 
-/// What is run of a tape's program, whose machine stands at its start.
+/// What is run of a tape's program, which is in core.
 fn ready_run(
     alloc: Global,
     form: &TraceForm,
     frames: &[u8],
-    machine: Machine,
+    program: CoreProgram,
 ) -> Result<Run, Ending>
-    ensures { (items : List Item) → IsTape frames.now items → spec.IsReady form.now frames.now machine result }
+    ensures { (items : List Item) → IsTape frames.now items → spec.IsReady form.now frames.now program result }
 {
     let keys = keys_of(alloc, Form::Text, text_of(&form.keys))?;
     let flags = flags_of(alloc, frames)?;
     Ok(Run {
-        machine,
+        program,
         keys,
         flags,
     })

@@ -1,7 +1,6 @@
 use Rattle.std.proofs.Common.{inl, inr, refl, unwrap_or}
 use Rattle.image_files.specs.Work.{Purely}
-use Rattle.tape_commands.specs.Profiles.{GivesProfile}
-use Rattle.tape_commands.specs.Runs.{terminal_of}
+use Rattle.tape_commands.specs.Profiles.{ProfileOn}
 use Rattle.image_files.proofs.WorkLemmas.{ends_with}
 use Rattle.tape_commands.proofs.profiles.profile_tape.Goals as goal
 
@@ -10,7 +9,7 @@ returns-in_err-text g c = inr (record {
   given = c.in_ok-run.run';
   between = g.H.Host.history c.read_run.new.host;
   done = c.in_ok-run.ensures;
-  after = inl (ends_with (Purely (GivesProfile (unwrap_or c.args.form.now.steps 1000000) (terminal_of c.in_ok-run.run') c.in_ok-run.run'.flags.items)) _ _ _ _ (c.in_err-text.ensures, refl) c.from_residual-in_err-text.ensures);
+  after = inl (ends_with (Purely (ProfileOn c.args.form.now.cpu (unwrap_or c.args.form.now.steps 1000000) c.in_ok-run.run')) _ _ _ _ (rw c.unwrap_or.ensures at c.in_err-text.ensures, refl) c.from_residual-in_err-text.ensures);
 })
 
 pub returns : goal.returns

@@ -1,12 +1,10 @@
-//! A machine that stands where the program of a tape starts.
+//! The program of a tape in core, before a machine runs it.
 ghost use Rattle.std.specs.Prelude.{◌≡◌, nat_eq};
 ghost use Rattle.image_files.specs.Notes.{Tells};
-ghost use Rattle.tape_commands.specs.Machines as spec;
-ghost use Rattle.tape_commands.specs.Machines.{FindsStart, LoadsCore, Stands, StartsAt, TellsCell, TellsStart};
+ghost use Rattle.tape_commands.specs.CorePrograms.{FindsStart, LoadsCore, LoadsProgram, StartsAt, TellsCell, TellsStart};
 
 use crate::lines::tell_program;
 use core_load::{Core, load};
-use cpu8::Machine;
 use hosts::Host;
 use outcome::{Ending, PlainNote, start_note};
 use program_commands::refuse_frames;
@@ -15,20 +13,35 @@ use std::alloc::Global;
 use tape_reports::{first_cell, start_cell};
 use word12::{Cell, Word};
 
-/// A machine that stands where the program of a tape is to begin: where that isn't given, at 00200 or else at the tape's first word, which is
-/// printed.
-pub(crate) fn machine_of<H: Host>(
+/// A program in core.
+#[derive(Drop)]
+pub(crate) struct CoreProgram {
+    pub(crate) core: Core,
+
+    /// The cell where it starts.
+    pub(crate) start: Cell,
+
+    /// What the switches are set to, if it is given.
+    pub(crate) switches: Option<Word>,
+}
+
+/// The program of a tape in core. Where its start isn't given, it starts at 00200 or else at the tape's first word, which is printed.
+pub(crate) fn core_program<H: Host>(
     host: &mut H,
     alloc: Global,
     frames: &[u8],
     start: Option<Cell>,
     switches: Option<Word>,
-) -> Result<Machine, Ending>
-    ensures { Stands frames.now start switches (H.history host.old) result (H.history host.new) }
+) -> Result<CoreProgram, Ending>
+    ensures { LoadsProgram frames.now start switches (H.history host.old) result (H.history host.new) }
 {
     let core = core_of(host, alloc, frames)?;
     let start = find_start(host, alloc, frames, start)?;
-    Ok(machine_at(core, switches, start))
+    Ok(CoreProgram {
+        core,
+        start,
+        switches,
+    })
 }
 
 /// Core with a tape laid over it. What frames are is printed where they are none.
@@ -104,16 +117,4 @@ fn tell_cell<H: Host>(host: &mut H, alloc: Global, start: Cell) -> Result<(), En
         return Ok(());
     }
     tell_program(host, alloc, &ProgramLine::Start(start))
-}
-
-/// A machine with this core that stands at a cell.
-fn machine_at(core: Core, switches: Option<Word>, start: Cell) -> Machine
-    ensures { result ≡ spec.machine_at core switches start }
-{
-    let mut machine = Machine::new(core);
-    if let Some(word) = switches {
-        machine.switches(word);
-    }
-    machine.start(start);
-    machine
 }

@@ -1,5 +1,5 @@
 use Rattle.std.proofs.Common.{inr, refl}
-use Rattle.tape_commands.proofs.teletypes.end_run.Goals as goal
+use Rattle.tape_commands.proofs.printing.end_run.Goals as goal
 
 pub returns-in_ok-tell_program-in-Ok : goal.returns-in_ok-tell_program-in-Ok
 returns-in_ok-tell_program-in-Ok g c = rw c.in-Ok.is (inr (record {

@@ -1,7 +1,7 @@
 use Rattle.std.proofs.Common.{inl, inr, refl}
-use Rattle.tape_commands.specs.Machines.{FindsStart, LoadsCore}
+use Rattle.tape_commands.specs.CorePrograms.{FindsStart, LoadsCore}
 use Rattle.image_files.proofs.WorkLemmas.{ends_with}
-use Rattle.tape_commands.proofs.machines.machine_of.Goals as goal
+use Rattle.tape_commands.proofs.core_programs.core_program.Goals as goal
 
 pub returns-in_err-core : goal.returns-in_err-core
 returns-in_err-core g c = inl (ends_with (LoadsCore c.args.frames.now) _ _ _ _ c.in_err-core.ensures c.from_residual.ensures)
@@ -19,5 +19,5 @@ returns g c = inr (record {
   given = c.in_ok-core.core;
   between = g.H.Host.history c.core_of.new.host;
   done = c.in_ok-core.ensures;
-  after = inr (record { given = c.in_ok-start.start; between = g.H.Host.history c.find_start.new.host; done = c.in_ok-start.ensures; after = (c.machine_at.ensures, refl) });
+  after = inr (record { given = c.in_ok-start.start; between = g.H.Host.history c.find_start.new.host; done = c.in_ok-start.ensures; after = (refl, refl) });
 })

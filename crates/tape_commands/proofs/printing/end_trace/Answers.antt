@@ -1,5 +1,5 @@
 use Rattle.std.proofs.Common.{rules, inr, refl}
-use Rattle.tape_commands.proofs.traces.end_trace.Goals as goal
+use Rattle.tape_commands.proofs.printing.end_trace.Goals as goal
 
 pub returns-in_ok-line-in-Ok : goal.returns-in_ok-line-in-Ok
 returns-in_ok-line-in-Ok g c = rw c.in-Ok.is (inr (record {

@@ -1,4 +1,4 @@
--- A machine that stands where the program of a tape starts (this project's profile).
+-- The program of a tape in core, and where it starts (this project's profile).
 use Rattle.std.specs.Prelude.{◌≡◌, ◌⊎◌, ℕ, nat_eq, Bool, true, false, Option, None, Some, Result, Ok, Err, List}
 use Rattle.word12.specs.declared.sizes.TheConstants.{CORE}
 use Rattle.bin_tape.specs.Items.{Item, words_of}
@@ -6,7 +6,6 @@ use Rattle.bin_tape.specs.Tape.{IsTape}
 use Rattle.bin_tape.specs.declared.faults.TapeFault.{TapeFault}
 use Rattle.core_load.specs.Core.{zeros}
 use Rattle.core_load.specs.Load.{IsLoaded, LoadsTape}
-use Rattle.cpu8.specs.State.{State, new_machine, switches_set, after_start}
 use Rattle.hosts.specs.Event.{Event}
 use Rattle.script8.specs.declared.faults.SessionFault.TheVariants.{Memory}
 use Rattle.tape_reports.specs.Starts.{first_cell, start_cell}
@@ -20,6 +19,7 @@ use Rattle.image_files.specs.Saving.{IsDone}
 use Rattle.image_files.specs.Work.{Then, Purely}
 use Rattle.program_commands.specs.Kinds.{RefusesFrames}
 use Rattle.tape_commands.specs.Lines.{TellsProgram, IsEnding, IsJust}
+use Rattle.tape_commands.specs.declared.core_programs.CoreProgram.{CoreProgram}
 
 -- ## Core
 
@@ -55,16 +55,12 @@ StartsIf given None usual old result new = Purely (IsEnding (Line NothingToRun))
 abbrev pub FindsStart : List ℕ → Option ℕ → List Event → Result ℕ Ending → List Event → Type 0
 FindsStart frames given old result new = (items : List Item) → IsTape frames items → StartsIf given (first_cell (words_of items)) (start_cell (words_of items)) old result new
 
--- ## The machine
+-- ## The program
 
--- the switches are set, if that is asked for
-abbrev pub with_switches : Option ℕ → State → State
-with_switches None s = s
-with_switches (Some word) s = switches_set s word
+-- a program in this core, which starts at this cell, and for which the switches are set so
+abbrev pub program_in : List ℕ → Option ℕ → ℕ → CoreProgram
+program_in core switches start = record { core = core; start = start; switches = switches }
 
-abbrev pub machine_at : List ℕ → Option ℕ → ℕ → State
-machine_at core switches start = after_start (with_switches switches (new_machine core)) start
-
--- a new machine with the core of a tape stands at the start of its program
-abbrev pub Stands : List ℕ → Option ℕ → Option ℕ → List Event → Result State Ending → List Event → Type 0
-Stands frames given switches = Then (LoadsCore frames) (λ core. Then (FindsStart frames given) (λ start. Purely (IsJust (machine_at core switches start))))
+-- the tape is laid over core, and it is found where its program starts
+abbrev pub LoadsProgram : List ℕ → Option ℕ → Option ℕ → List Event → Result CoreProgram Ending → List Event → Type 0
+LoadsProgram frames given switches = Then (LoadsCore frames) (λ core. Then (FindsStart frames given) (λ start. Purely (IsJust (program_in core switches start))))
