@@ -131,7 +131,8 @@ await run('kept', {
     'a session keeps the files that it has stored, where the page is left and where it is stopped': async (page, url) => {
         await page.go(url);
         await create(page, 'DISK');
-        for (const [name, ends] of [['ONE', () => leave(page)], ['TWO', () => page.click('#script-stop').then(() => isTold(page, 'script-status', 'It was stopped.'))]]) {
+        const stop = async () => { await page.click('#script-stop'); await isTold(page, 'script-status', 'It was stopped.'); };
+        for (const { name, ends } of [{ name: 'ONE', ends: () => leave(page) }, { name: 'TWO', ends: stop }]) {
             await pane(page, 'script');
             await page.click('#session');
             await page.until(`!document.getElementById('entry-line').disabled`);
