@@ -52,6 +52,7 @@ SHARED = {
     "--dectape": "The file of the image is a DECtape, of 129 words a block. In \\fBcreate\\fR: write one.",
     "--plain": "The file of the image is one volume from its first byte, whatever stands in it.",
     "--wait": "Wait so long while another program holds the image, 0 to 3600 seconds; else not at all.",
+    "--cpu": "The machine: 8i, a PDP-8/I, or 8e, a PDP-8/E; else the 8/I.",
     "--start": "The cell to start at, in octal, as 200, 10200 or 1:0200; else that of the tape's first word.",
     "--switches": "The word that the switches are set to, in octal; else 0000.",
     "--steps": "The most steps that are made, 1 up.",
