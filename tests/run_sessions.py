@@ -80,7 +80,7 @@ def run(commands: Session, program: str) -> list[tuple[str, str]]:
             script.write(f". {TOP}/tests/recipes.sh\n")
             script.writelines(f"{command}printf '{MARK}%d\\n' $?\n" for _, command, _ in commands)
         words = ["bash", ".session"]
-        ran = subprocess.run(words, cwd=folder, timeout=patience(120), stdin=subprocess.DEVNULL, stdout=subprocess.PIPE, stderr=subprocess.STDOUT)
+        ran = subprocess.run(words, cwd=folder, timeout=patience(600), stdin=subprocess.DEVNULL, stdout=subprocess.PIPE, stderr=subprocess.STDOUT)
         said = ran.stdout.decode(errors="backslashreplace")
     return re.findall(rf"(.*?){MARK}(\d+)\n", said, re.S)
 

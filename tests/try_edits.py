@@ -97,6 +97,7 @@ def main(words: list[str]) -> int:
     below = [it for it in CRATES.names if any(it in CRATES.below(name) for name in {edit.crate for edit in edits})]
     if not are_left(below, "--gate" in words) and not bring_up_to_date(below):
         return 2
+    os.nice(10)  # what is timed beside the provers comes first
     edits.sort(key=lambda it: -CRATES.names.index(it.crate))
     with concurrent.futures.ThreadPoolExecutor(len(os.sched_getaffinity(0))) as lanes:
         passed = sum(lanes.map(tried, groups(edits)))

@@ -9,7 +9,7 @@ import { extname, join, normalize } from 'node:path';
 const TYPES = { '.html': 'text/html', '.css': 'text/css', '.js': 'text/javascript', '.wasm': 'application/wasm', '.svg': 'image/svg+xml',
     '.webmanifest': 'application/manifest+json' };
 // How long a test waits for what must come, in milliseconds.
-const PATIENCE = Number(process.env.PATIENCE ?? 60000);
+const PATIENCE = Number(process.env.PATIENCE ?? 300000);
 /** @param {number} milliseconds */
 export const pause = milliseconds => new Promise(go => setTimeout(go, milliseconds));
 

@@ -14,7 +14,7 @@ const STEPS = `text text script many further other rename removal switches addre
 // What a second tab does.
 const THERE = ['text', 'script', 'machine', 'teletype', 'volume', 'file'];
 // How long the screen may take to show the model, in milliseconds.
-const PATIENCE = Number(process.env.PATIENCE ?? 30000);
+const PATIENCE = Number(process.env.PATIENCE ?? 300000);
 
 // What the screen shows. An image is there by its digest, and a change by the words that the buttons for it have.
 const SCREEN = `async () => {
