@@ -142,10 +142,10 @@ export class Programs extends EventTarget {
     }
 }
 
-// One run. `heard` and `said` take what it writes to standard output and to standard error, `ended` its status, null where it was stopped or has
-// failed, and why it failed, null where it has not. `room` is
-// how many bytes it may be ahead of what `show` was given, none for no limit. `patience` is after how many milliseconds a read gives nothing. `again`
-// has the reads of a run that this one follows, and `read` takes each further one that gives bytes, after how many that gave none.
+// One run. `heard` and `said` take what it writes to standard output and to standard error. `ended` takes its status, null where it was stopped or
+// has failed, and why it failed, null where it hasn't. `room` is how many bytes it may be ahead of what `show` was given, none for no limit.
+// `patience` is after how many milliseconds a read gives nothing. `again` has the reads of a run that this one follows, and `read` takes each further
+// one that gives bytes, after how many that gave none.
 export class Run {
     /** @type {Uint8Array[]} */
     #queue = [];
