@@ -93,16 +93,19 @@ export class Files {
         this.#undo(isAgain, text);
     }
 
-    // Undoes one change after another, however quickly that is asked for.
+    // Undoes one change after another, however quickly that is asked for. What is changed while one waits stays.
     /** @param {boolean} isAgain @param {string} [text] */
-    #undo(isAgain, text) { return this.undone = this.undone.then(() => this.#undoNow(isAgain, text)).catch(error => this.page.say(String(error), true)); }
+    #undo(isAgain, text) {
+        const newest = this.page.undo.ask();
+        return this.undone = this.undone.then(() => this.#undoNow(isAgain, newest, text)).catch(error => this.page.say(String(error), true));
+    }
 
-    // Undoes the newest change, or that of a text, or does it again, and shows the volume of it.
-    /** @param {boolean} isAgain @param {string} [text] @returns {Promise<unknown>} */
-    async #undoNow(isAgain, text) {
+    // Undoes the newest change up to `newest`, or that of a text, or does it again, and shows the volume of it.
+    /** @param {boolean} isAgain @param {number} newest @param {string} [text] @returns {Promise<unknown>} */
+    async #undoNow(isAgain, newest, text) {
         const { undo, claims, source, script, teletype, machine, texts, say } = this.page;
         teletype.paper.keep();
-        const next = undo.step(isAgain, text);
+        const next = undo.step(isAgain, text, newest);
         if (!next) return;
         let busy = null;
         /** @param {Step} step */

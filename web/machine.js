@@ -11,7 +11,7 @@ import { rateOf, uneven } from './pace.js';
 import { Owner } from './owner.js';
 import { Panel } from './panel.js';
 import { Paper } from './paper.js';
-import { takeKeys } from './keys.js';
+import { Keys } from './keys.js';
 import { Watch } from './watch.js';
 import { stepsIn } from './words.js';
 
@@ -21,7 +21,7 @@ const LEAST = 20000, MOST = 1000000, LOOKS = 8, PICTURE = 10;
 // How many steps and lines the journal may have while the machine goes, and when it has stopped.
 const GOING = /** @type {const} */ ([300000000, 20000]), STOPPED = /** @type {const} */ ([5000000, 2000]);
 // The notes that are the machine as the page keeps it.
-const STATE = ['machine', 'printed', 'access', 'steps', 'loaded', 'address', 'switches', 'fields', 'breaks', 'listing', 'names', 'console'];
+const STATE = ['machine', 'printed', 'access', 'steps', 'loaded', 'address', 'switches', 'fields', 'breaks', 'listing', 'names', 'console', 'keys'];
 
 export class Machine {
     /** @type {Registers | null} */
@@ -39,15 +39,13 @@ export class Machine {
     steps = null;
     isGoing = false;
     many = LEAST;
-    /** @type {number[]} */
-    keys = [];
 
     /** @param {Page} page */
     constructor(page) {
         this.page = page;
         this.isDepositing = false;
         this.panel = new Panel($('panel'), {
-            switches: word => { page.store.note('switches', word); this.#ask(`SWITCHES ${octal(word, 4)}`); },
+            switches: word => this.#switch(word),
             fields: word => page.store.note('fields', word),
             load: () => this.#loadAddress(), examine: () => this.#examine(), deposit: () => this.#deposit(),
             start: isByPointer => this.start(isByPointer), stop: () => this.stop(), go: () => this.goOn(), step: () => this.step(),
@@ -65,7 +63,7 @@ export class Machine {
         helpAt($('code'), $('code-help'), it => helpOf(it.closest('.l')?.textContent ?? ''));
         $('core-tape').addEventListener('change', () => loadChosen(page, $('core-tape')));
         $('core-from').addEventListener('change', () => isOctal($('core-from').value, 5) ? (tell('machine-status', ''), this.#core()) : tell('machine-status', 'Core is shown from an address of at most five octal digits.', true));
-        takeKeys(key => this.keys.push(key));
+        this.keys = new Keys(page.store);
         for (const it of ['volume', 'tape']) page.store.addEventListener(it, () => listTapes(page));
         $('machine').addEventListener('shown', () => this.#refresh());
         page.store.addEventListener('leave', () => this.#keep(true));
@@ -159,6 +157,7 @@ export class Machine {
         this.code.keep();
         this.#keep();
         this.isLoaded = false;
+        this.keys.drop();
         this.list('');
         this.paper.tear();
         tell('machine-status', 'a new machine');
@@ -207,6 +206,13 @@ export class Machine {
         if (this.living.lines) this.watch.show();
     }
 
+    /** @param {number} word */
+    #switch(word) {
+        this.page.store.note('switches', word);
+        this.#ask(`SWITCHES ${octal(word, 4)}`);
+        this.#show();
+    }
+
     #loadAddress() {
         this.isLoaded = true;
         this.#point(this.panel.fieldSwitches * 0o10000 + this.panel.switches);
@@ -215,9 +221,9 @@ export class Machine {
         this.#show();
     }
 
-    // What the lamps show: the registers, and in PC the address that was loaded, until the machine goes from there.
+    // What the lamps show: the registers and the switches, and in PC the address that was loaded, until the machine goes from there.
     get #lit() {
-        const { registers, panel: { address } } = this;
+        const { panel: { address, switches } } = this, registers = this.registers && { ...this.registers, switches: octal(switches, 4) };
         return this.isLoaded && registers ? { ...registers, if: String(address >> 12), df: String(address >> 12), pc: octal(address & 0o7777, 4) } : registers;
     }
 
@@ -424,7 +430,8 @@ export class Machine {
                 this.since = null;
             }
         }
-        if (this.keys.length && !this.registers?.kbd) lines.push(`KEY ${octal(this.keys.shift() ?? 0, 3)}`);
+        const key = this.registers?.kbd ? undefined : this.keys.read();
+        if (key !== undefined) lines.push(`KEY ${octal(key, 3)}`);
         lines.push(`${word} ${count}`, 'REGISTERS');
         const replies = await this.#ask(...lines);
         if (!replies) return 'ENDED';

@@ -105,9 +105,9 @@ async function begin() {
     if (!canLive) hideUnable();
     const claims = new Claims();
     for (const it of KINDS) claims.claim(it);
-    await claims.known(); // a page that is just left writes until it is gone
-    const store = await Store.open(claims);
-    const programs = new Programs(await load('pdp8.wasm'), store);
+    // a page that is just left writes until it is gone
+    const [store, module] = await Promise.all([claims.known().then(() => Store.open(claims)), load('pdp8.wasm')]);
+    const programs = new Programs(module, store);
     const page = /** @type {Page} */ ({ store, claims, programs, undo: new Undo(store), sound: new Sound(store), tell: trouble });
     await page.undo.restore();
     page.tabs = new Tabs(store);

@@ -4,7 +4,7 @@
 const SLOTS = /** @type {const} */ (['files', 'notes']), OWN = 'geivottu ';
 /** @type {[RegExp, string][]} */
 const OWNERS = [[/^(text|source-name|tape)$|^(text|further|dialect|form|options|from) /, 'text'], [/^(lines|script-saving|strict)$/, 'script'], [/^(paper|reader|tty-(going|run|reads|tape|own))$/, 'teletype'],
-    [/^(machine|printed|access|steps|going|loaded|address|switches|fields|breaks|listing|names|console)$/, 'machine']];
+    [/^(machine|printed|access|steps|going|loaded|address|switches|fields|breaks|listing|names|console|keys)$/, 'machine']];
 
 // The claim that stands for a note, null for none.
 /** @param {string} key */

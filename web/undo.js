@@ -19,6 +19,8 @@ export class Undo extends EventTarget {
     /** @type {Map<string, { words: string } & Partial<Change>>} */
     #open = new Map();
     #isOwn = false;
+    // The newest change when Undo was asked for last, by its number. No later one is joined to it.
+    #asked = 0;
     // What is typed, and the machine as it was before what is done to it now.
     /** @type {{ key: string, words: string, before: string, after: string, timer: number } | null} */
     #typed = null;
@@ -92,7 +94,7 @@ export class Undo extends EventTarget {
     async ofMachine(words, work, isFurther = false) {
         if (this.#worked) return work();
         this.endTyping();
-        const last = this.#past.at(-1), step = isFurther && !this.#future.length && last?.key === 'machine' ? last : null;
+        const last = this.#further, step = isFurther && last?.key === 'machine' ? last : null;
         const own = this.#worked = { words: step?.words ?? words, before: step?.was ? worded(step.was) : this.machine.get(), step };
         try {
             return await work();
@@ -127,7 +129,7 @@ export class Undo extends EventTarget {
         clearTimeout(it?.timer);
         const step = it && stepOf('notes', it.key, it.before, it.after, it.words);
         if (!step) return;
-        const last = this.#past.at(-1), isFurther = !this.#future.length && last?.isTyped && last.key === step.key && last.size < LONGEST && isAddition(last) && isAddition(step);
+        const last = this.#further, isFurther = last?.isTyped && last.key === step.key && last.size < LONGEST && isAddition(last) && isAddition(step);
         const before = isFurther ? laid(it.before, last, false) : null;
         if (!last || typeof before !== 'string') return void this.#add({ ...step, isTyped: true });
         this.store.note(this.#noteOf(last), Object.assign(last, stepOf('notes', it.key, before, it.after, it.words)));
@@ -140,6 +142,18 @@ export class Undo extends EventTarget {
         for (const it of [...this.#past, ...this.#future].filter(it => it.key === old)) this.store.note(this.#noteOf(it), Object.assign(it, { key }));
     }
 
+    // The change that a further one may be joined to: the newest, if neither it nor another was undone since.
+    get #further() {
+        const last = this.#past.at(-1);
+        return !this.#future.length && last && last.id > this.#asked ? last : undefined;
+    }
+
+    // Undo, or Do again, is asked for. Gives the number of the newest change, since what is changed from now on stays.
+    ask() {
+        this.endTyping();
+        return this.#asked = Math.max(this.#asked, ...[...this.#past, ...this.#future].map(it => it.id));
+    }
+
     // How many changes can be undone.
     get count() { return this.#past.length; }
 
@@ -148,11 +162,12 @@ export class Undo extends EventTarget {
 
     get again() { return this.step(true)?.words ?? null; }
 
-    // The step that would be undone, or done again, next: the newest of all, or the newest of a text that has any.
-    /** @param {boolean} isAgain @param {string} [key] */
-    step(isAgain, key) {
+    // The step that would be undone, or done again, next: the newest of all, or the newest of a text that has any. A change that is newer than
+    // `newest` is none of them.
+    /** @param {boolean} isAgain @param {string} [key] @param {number} [newest] */
+    step(isAgain, key, newest = Infinity) {
         this.endTyping();
-        const all = isAgain ? this.#future : this.#past;
+        const all = (isAgain ? this.#future : this.#past).filter(it => it.id <= newest);
         return all.filter(it => it.key === key).at(-1) ?? all.at(-1);
     }
 

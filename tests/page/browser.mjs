@@ -10,6 +10,8 @@ const TYPES = { '.html': 'text/html', '.css': 'text/css', '.js': 'text/javascrip
     '.webmanifest': 'application/manifest+json' };
 // How long a test waits for what must come, in milliseconds.
 const PATIENCE = Number(process.env.PATIENCE ?? 300000);
+// How long it waits for the page at least, which comes late on a busy machine whatever is in it.
+const COMING = 120000;
 /** @param {number} milliseconds */
 export const pause = milliseconds => new Promise(go => setTimeout(go, milliseconds));
 
@@ -183,7 +185,7 @@ export class Browser {
     /** @param {string} url */
     async go(url) {
         await this.call('Page.navigate', { url: url.endsWith('/') ? `${url}#files` : url });
-        await this.until('document.readyState === "complete" && (document.getElementById("ready") || !document.getElementById("trouble")?.hidden) !== null && !!(document.getElementById("ready") || document.getElementById("trouble")?.hidden === false)');
+        await this.until('document.readyState === "complete" && (document.getElementById("ready") || !document.getElementById("trouble")?.hidden) !== null && !!(document.getElementById("ready") || document.getElementById("trouble")?.hidden === false)', Math.max(PATIENCE, COMING));
     }
 
     /** @param {string} id */

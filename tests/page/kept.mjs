@@ -338,5 +338,10 @@ await run('kept', {
         await isTold(page, 'machine-status', 'stopped by the key');
         await leave(page);
         holds(!await page.look('geivottu.machine.isGoing'), 'a machine that was stopped goes');
+        await page.look(`document.getElementById('console').focus()`);
+        await page.key('D');
+        await leave(page);
+        await page.click('#key-go');
+        await isTold(page, 'console', 'ABCD');
     },
 });

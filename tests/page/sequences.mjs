@@ -29,7 +29,7 @@ const SCREEN = `async () => {
     return {
         open: at('source-name').value, texts: { ...others, [at('source-name').value]: at('text').value }, lines: at('lines').value, images, volume: at('volume').value,
         machine: { core: at('core').textContent, switches: at('switches-shown').value, fields: machine.panel.fieldSwitches, address: at('address').textContent,
-            registers: all('#registers > div').map(it => it.textContent).filter(it => !it.startsWith('switches')).join(' '), lamps: all('#panel .lamps').map(it => it.ariaLabel).join(', '),
+            registers: all('#registers > div').map(it => it.textContent).join(' '), lamps: all('#panel .lamps').map(it => it.ariaLabel).join(', '),
             steps: at('steps').textContent, breaks: all('#code [aria-pressed=true]').map(it => it.parentNode.dataset.cell).join(' '), code: at('code').textContent.length, console: at('console').textContent },
         paper: at('paper').textContent, runs: !at('tty-stop').disabled,
         replies: at('replies').textContent, told: at('script-status').textContent, isSession: !at('entry-line').disabled,
@@ -187,7 +187,7 @@ class Sequence {
 
     async switches() {
         await this.page.look(`document.querySelector('[aria-label="${this.any(4) ? `switch ${this.any(12)}` : `field switch ${this.any(3)}`}"]').click()`);
-        await this.takes('switches', 'fields');
+        await this.takes('switches', 'fields', 'registers');
     }
 
     async address() {

@@ -447,6 +447,25 @@ await run('undone', {
         await page.click('#undo');
         await page.until(`document.getElementById('paper').textContent.split(String.fromCharCode(10)).join('|') === 'READY|MORE'`);
     },
+    'what is changed while Undo waits stays': async (page, url) => {
+        await withOne(page, url);
+        await page.look(`geivottu.teletype.paper.print(new TextEncoder().encode('READY'))`);
+        await isTold(page, 'paper', 'READY');
+        await pane(page, 'script');
+        await page.click('#session');
+        await page.until(`!document.getElementById('entry-line').disabled`);
+        await page.look(`(() => {
+            for (let k = 0; k < 3; k++) document.getElementById('undo').click();
+            document.getElementById('tear').click();
+            return geivottu.files.undone;
+        })()`);
+        await page.until(`document.getElementById('paper').textContent === ''`);
+        await page.click('#session');
+        await page.until(`document.getElementById('entry-line').disabled`);
+        await pane(page, 'files');
+        await undo(page, 'Undone: tearing the paper off');
+        await undo(page, 'Undone: putting ONE.TX');
+    },
     'faults show as one types, and the tape stays': async (page, url) => {
         await page.go(url);
         await setSource(page, ONE);

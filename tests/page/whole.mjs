@@ -155,7 +155,7 @@ await run('whole', {
         const keys = [['@', 2, '0200'], ['a', 2, '0201'], ['[', 2, '0233'], ['\\', 2, '0234'], [']', 2, '0235'], ['^', 2, '0236'], ['_', 2, '0237'],
             ['a', 0, '0301'], ['Enter', 0, '0215'], ['Backspace', 0, '0377'], ['Escape', 0, '0233'], ['_', 0, '0337']];
         for (const [key, modifiers] of keys) await page.key(key, key, modifiers);
-        await page.until('geivottu.machine.keys.length === 0');
+        await page.until('geivottu.store.notes.get("keys").length === 0');
         await page.until(`geivottu.machine.registers.kbd === 0 || geivottu.machine.registers.kbd === false`);
         await page.click('#key-stop');
         await isTold(page, 'machine-status', 'stopped by the key');
