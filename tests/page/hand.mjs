@@ -63,7 +63,7 @@ async function clickAt(page, id, times) {
 
 await run('hand', {
     'single steps scroll no window, and each click is a step': async (page, url) => {
-        await page.size(1280, 600);
+        await page.size(1280, 400); // the listing is out of sight
         await page.go(url);
         await assemble(page, `${'/ A LINE\n'.repeat(200)}${COUNT}`);
         await page.click('#to-core');

@@ -166,6 +166,10 @@ await run('offers', {
         await page.click('button[aria-label="NOTE.TX edit in Source"]');
         await page.until(`!document.getElementById('source').hidden && document.getElementById('text').value === 'ONE\\nTWO\\n'`);
         same('NOTE', await page.look(`document.getElementById('source-name').value`), 'its name');
+        await page.look('geivottu.store.settled()');
+        await page.go(`${url}?opened`);
+        await pane(page, 'source');
+        same(false, await page.look(`document.getElementById('text-back').disabled`), 'whether it has no file after a reload');
         await page.fill('#text', 'ONE\nTHREE\n');
         await page.click('#text-back');
         await isTold(page, 'source-status', 'STORED NOTE.TX 1');

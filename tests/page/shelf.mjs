@@ -51,6 +51,8 @@ await run('shelf', {
         holds(await page.look(`document.getElementById('undo').disabled`), 'there is something to undo');
         await page.click('#power');
         await isTold(page, 'machine-status', 'a new machine');
+        await page.look('geivottu.machine.going');
+        same('a new machine', await page.text('machine-status'), 'what is said once the old machine has stopped');
         await page.look('geivottu.store.settled()');
         await page.go(`${url}?again`);
         holds(!await page.look(`document.getElementById('code').textContent.includes('GAME')`), 'the game comes again');
