@@ -12,7 +12,7 @@ use Rattle.pal_lex.specs.Text.{text_of}
 use Rattle.pal8_join.specs.Joins.{bytes_in, joined_bytes}
 use Rattle.pal8_tape.specs.Laws as pal8
 use Rattle.program_tasks.specs.declared.tasks.AssembleForm.{AssembleForm}
-use Rattle.source_commands.specs.Assembling.{options_of}
+use Rattle.assemble_commands.specs.Assembling.{options_of}
 use Rattle.program_laws.specs.Assembled.{AreWordsIn, IsMapOf, IsTapeIn}
 
 abbrev pub WrittenTape : Type 0

@@ -29,13 +29,13 @@ use Rattle.image_files.specs.Saving.{IsDone, Stores}
 use Rattle.image_files.specs.Stored.{stored_line}
 use Rattle.image_files.specs.Work.{Then, Purely}
 use Rattle.image_files.specs.declared.images.Image.{Image}
-use Rattle.source_commands.specs.Assembling.{Assembles, AssemblesAll, AssemblesFrom, AssemblesOnto, IsMade, IsTapeOf, ListsTape, Makes, MakesIf, MakesPal8, NotesIf, PrintsFaults, RefusesPal8, RefusesSources, TellsAny, options_of}
-use Rattle.source_commands.specs.Clashes.{IsRefused, clash_of}
-use Rattle.source_commands.specs.Faults.{faults_text, pal8_faults_text}
-use Rattle.source_commands.specs.Outputs.{PutsTape, WritesListing}
-use Rattle.source_commands.specs.Places.{KeepsInputs, KeepsListing, KeepsTape, tape_of}
-use Rattle.source_commands.specs.Sources.{AreLent, GetsText, IsAsked, IsText, ReadsEach, ReadsMember, ReadsSource, source_text}
-use Rattle.source_commands.specs.declared.assembling.Assembled.{Assembled}
+use Rattle.assemble_commands.specs.Assembling.{Assembles, AssemblesAll, AssemblesFrom, AssemblesOnto, IsMade, IsTapeOf, ListsTape, Makes, MakesIf, MakesPal8, NotesIf, PrintsFaults, RefusesPal8, RefusesSources, TellsAny, options_of}
+use Rattle.assemble_commands.specs.Clashes.{IsRefused, clash_of}
+use Rattle.assemble_commands.specs.Faults.{faults_text, pal8_faults_text}
+use Rattle.assemble_commands.specs.Outputs.{PutsTape, WritesListing}
+use Rattle.assemble_commands.specs.Places.{KeepsInputs, KeepsListing, KeepsTape, tape_of}
+use Rattle.assemble_commands.specs.Sources.{AreLent, GetsText, IsAsked, IsText, ReadsEach, ReadsMember, ReadsSource, source_text}
+use Rattle.assemble_commands.specs.declared.assembling.Assembled.{Assembled}
 use Rattle.keeper_laws.specs.Changed.{GetsVolume}
 use Rattle.keeper_laws.specs.Ended.{DoesNothing, EndsAs}
 use Rattle.keeper_laws.proofs.OpenLemmas.{FindsSaved, FindsUnsaved, IsQuiet, StaysQuiet, after-note, quiet-then, still}

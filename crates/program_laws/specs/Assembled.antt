@@ -22,7 +22,7 @@ use Rattle.program_tasks.specs.declared.forms.ImageForm.{ImageForm}
 use Rattle.program_tasks.specs.declared.tasks.AssembleForm.{AssembleForm}
 use Rattle.image_files.specs.Stored.{stored_line}
 use Rattle.image_files.specs.declared.images.Image.{Image}
-use Rattle.source_commands.specs.Assembling.{options_of}
+use Rattle.assemble_commands.specs.Assembling.{options_of}
 use Rattle.keeper_laws.specs.Changed.{GetsVolume, IsOpened}
 
 -- these are the texts of files of a volume, in their order

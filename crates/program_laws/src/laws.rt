@@ -20,7 +20,7 @@ ghost use Rattle.program_tasks.specs.declared.tasks.AssembleForm.{AssembleForm a
 ghost use Rattle.program_tasks.specs.declared.tasks.Task.{Task as Asked};
 ghost use Rattle.program_tasks.specs.declared.tasks.Task.TheVariants as asked;
 ghost use Rattle.image_files.specs.Laws.{KeepsFiles, ChangesNothing};
-ghost use Rattle.source_commands.specs.Assembling.{Assembles};
+ghost use Rattle.assemble_commands.specs.Assembling.{Assembles};
 ghost use Rattle.task_commands.specs.Tasks.{DoesTask, RunsTask, word_patch};
 ghost use Rattle.volume_commands.specs.Creating.{IsBlankDisk, IsBlankImage, IsBlankTapeFile};
 ghost use Rattle.volume_commands.specs.declared.creating.TheConstants.{DISK_BLOCKS, TAPE_BLOCKS};
@@ -38,6 +38,7 @@ ghost use Rattle.volume_commands.specs.GettingBack.{IsPrinted};
 ghost use Rattle.volume_commands.specs.Showing.{wanted_file};
 
 use archive_files::laws::put_is_got;
+use assemble_commands::laws::unchanged_files as unchanged_sources;
 use bin_tape::laws::written_tape;
 use byte_reader::ByteReader;
 use choice_commands::laws::unchanged_files as unchanged_choices;
@@ -46,10 +47,9 @@ use index_commands::laws::unchanged_files as unchanged_indexes;
 use keeper_laws::laws::{ended_changes, ended_creations, ended_many, ended_rescues, ended_words};
 use pal_asm::laws::has_words as pal3_words;
 use pal8_tape::laws::has_words as pal8_words;
-use program_commands::laws::unchanged_files as unchanged_programs;
+use run_commands::laws::unchanged_files as unchanged_machines;
 use script_commands::laws::unchanged_files as unchanged_scripts;
-use source_commands::laws::unchanged_files as unchanged_sources;
-use tape_commands::laws::unchanged_files as unchanged_machines;
+use tape_commands::laws::unchanged_files as unchanged_programs;
 use volume_commands::laws::shown_files;
 use volume_reports::laws::shown_images;
 

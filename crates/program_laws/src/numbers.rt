@@ -17,7 +17,7 @@ ghost use Rattle.outcome.specs.declared.hints.TheConstants.{IMAGE};
 ghost use Rattle.script8.specs.declared.readings.TheConstants.{MOST};
 ghost use Rattle.pal_asm.specs.declared.spots.TheConstants.{FIRST_PLACE as FIRST_OF_PAL3};
 ghost use Rattle.pal8_places.specs.declared.places.TheConstants.{FIRST_PLACE as FIRST_OF_PAL8};
-ghost use Rattle.source_commands.specs.declared.faults.TheConstants.{MOST_FURTHER};
+ghost use Rattle.assemble_commands.specs.declared.faults.TheConstants.{MOST_FURTHER};
 ghost use Rattle.os8_dates.specs.declared.days.TheConstants.{NO_DATE};
 ghost use Rattle.os8_dates.specs.declared.years.TheConstants.{FIRST_YEAR, LAST_YEAR, LEAST_LAST};
 ghost use Rattle.image_kind.specs.declared.lines.TheConstants.{MOST_LINES};

@@ -1,149 +1,140 @@
--- The commands on machines change no file.
-use Rattle.std.proofs.Common.{◌≡◌, ◌∙◌, ℕ, Bool, true, false, nat_eq, unwrap_or, Option, None, Some, Result, Ok, Err, List, inl, inr}
-use Rattle.bin_tape.specs.Items.{Item, words_of}
-use Rattle.bin_tape.specs.Tape.{IsTape}
-use Rattle.byte_reader.specs.Readings.{Reading}
+-- The commands on tapes change no file.
+use Rattle.std.proofs.Common.{◌≡◌, ℕ, Bool, true, false, option_map, Option, None, Some, Result, Ok, Err, List, inl, inr, length}
+use Rattle.std.specs.Global.{Vec, Global}
+use Rattle.std.specs.Prelude.{String}
 use Rattle.hosts.specs.Event.{Event}
 use Rattle.hosts.specs.Place.{about}
-use Rattle.hosts.specs.declared.faults.PrintFault.{PrintFault}
-use Rattle.host_output.specs.Printing.{HasPrinted}
-use Rattle.terminal8.specs.declared.outcomes.Ended.{Ended}
-use Rattle.terminal8.specs.declared.outcomes.TerminalFault.{TerminalFault}
-use Rattle.terminal8.specs.declared.outcomes.TerminalFault.TheVariants.{Reader, Writer}
-use Rattle.trace8.specs.declared.faults.TraceFault.{TraceFault}
-use Rattle.trace8.specs.declared.faults.TraceFault.TheVariants as trace
-use Rattle.program_reports.specs.Program.{program_line}
-use Rattle.tape_reports.specs.Starts.{first_cell, start_cell}
-use Rattle.program_reports.specs.declared.programs.ProgramLine.{ProgramLine}
-use Rattle.program_reports.specs.declared.programs.ProgramLine.TheVariants.{Start, Steps}
-use Rattle.program_tasks.specs.declared.forms.TapeForm.{TapeForm}
-use Rattle.program_tasks.specs.declared.tasks.Cpu.{Cpu}
-use Rattle.program_tasks.specs.declared.tasks.Cpu.TheVariants.{EightI, EightE}
-use Rattle.program_tasks.specs.declared.tasks.TeletypeForm.{TeletypeForm}
-use Rattle.program_tasks.specs.declared.tasks.TraceForm.{TraceForm}
-use Rattle.outcome.specs.Endings.{ending_of_tape}
-use Rattle.outcome.specs.Hints.{start_note}
+use Rattle.char_pack.specs.declared.forms.GetForm.TheVariants.{Frames}
+use Rattle.outcome.specs.Hints.{kind_note}
 use Rattle.outcome.specs.declared.endings.Ending.{Ending}
+use Rattle.outcome.specs.declared.endings.Ending.TheVariants.{Fault}
 use Rattle.outcome.specs.declared.notes.PlainNote.{PlainNote}
-use Rattle.image_files.specs.Answers.{AreLines}
-use Rattle.image_files.specs.Ending.{TellsLine}
-use Rattle.image_files.specs.Laws.{KeepsFiles}
-use Rattle.image_files.proofs.KeepLemmas.{purely-keeps, same, then-keeps}
+use Rattle.archive_files.specs.Asking.{Target, target_of}
+use Rattle.archive_files.specs.Getting.{Gets}
+use Rattle.archive_files.specs.declared.faults.ArchiveFault.{ArchiveFault}
+use Rattle.program_tasks.specs.declared.forms.ImageForm.{ImageForm}
+use Rattle.program_tasks.specs.declared.forms.TapeForm.{TapeForm}
+use Rattle.program_tasks.specs.declared.forms.TapeForm.TheVariants as tape
+use Rattle.program_tasks.specs.declared.tasks.RimForm.{RimForm}
+use Rattle.program_tasks.specs.declared.tasks.SourceForm.{SourceForm}
+use Rattle.image_files.specs.Answers.{Answers, Refuses}
 use Rattle.image_files.specs.Notes.{Tells}
+use Rattle.image_files.specs.Inputs.{TakesInput}
+use Rattle.image_files.specs.Reading.{Looks, LooksAt}
 use Rattle.image_files.specs.Saving.{Prints}
 use Rattle.image_files.specs.Work.{Then, Purely}
-use Rattle.program_commands.specs.Kinds.{RefusesFrames}
-use Rattle.program_commands.specs.Programs.{ReadsProgram}
-use Rattle.tape_commands.specs.CorePrograms.{FindsStart, LoadsCore, LoadsProgram, StartsAt, StartsIf, TellsCell, TellsStart, program_in}
-use Rattle.tape_commands.specs.Lines.{IsJust, TellsProgram}
-use Rattle.tape_commands.specs.Machines8i as pdp8i
-use Rattle.tape_commands.specs.Machines8e as pdp8e
-use Rattle.tape_commands.specs.Printing.{EndsRun, EndsTrace, IsEndOf, PrintsRun, PrintsTrace, line_of_end}
-use Rattle.tape_commands.specs.Profiles.{ProfileOn, ProfilesTape}
-use Rattle.tape_commands.specs.Runs.{IsReady, ReadsRun, start_or}
-use Rattle.tape_commands.specs.Teletypes.{ReadsProgramOf, RunsOn, RunsTeletype}
-use Rattle.tape_commands.specs.Traces.{TracesOn, TracesTape}
-use Rattle.tape_commands.specs.declared.core_programs.CoreProgram.{CoreProgram}
-use Rattle.tape_commands.specs.declared.printing.Stand.{Stand}
-use Rattle.tape_commands.specs.declared.runs.Run.{Run}
+use Rattle.tape_commands.specs.Kinds.{RefusesFrames, RefusesTape, is_no_tape}
+use Rattle.tape_commands.specs.Kinds as kinds
+use Rattle.image_files.specs.Laws.{KeepsFiles}
+use Rattle.image_files.proofs.KeepLemmas.{purely-keeps, same, then-keeps}
+use Rattle.tape_commands.specs.Programs.{IsAsked, IsCoreProgram, IsTapeProgram, ReadsCore, ReadsGiven, ReadsMember, ReadsProgram, RefusesIf, TakesIf, TakesTape, has_no_tape, is_core_name}
+use Rattle.tape_commands.specs.Rims.{GetsMember, GivesRim, ReadsFrames, WritesRim}
+use Rattle.tape_commands.specs.Sources.{GivesSource, ReadsNames, WritesSource, starts_or}
+use Rattle.tape_commands.specs.Tapes.{GivesLines, ListsTape}
 
 tells-keeps : (path : List ℕ) (note : Option PlainNote) (old new : List Event) → Tells note old new → about path new ≡ about path old
 tells-keeps path None old new p = same path p
 tells-keeps path (Some note) old new p = same path p.1
 
-line-keeps : (path line : List ℕ) (old new : List Event) → TellsLine line old new → about path new ≡ about path old
-line-keeps path line old new (inl (utf8, ok, p)) = same path p
-line-keeps path line old new (inr p) = same path p.1
+-- ## What is refused
 
-program-line-keeps : (line : ProgramLine) → KeepsFiles (TellsProgram line)
-program-line-keeps line old (Ok it) new p path = line-keeps path (program_line line) old new p
-program-line-keeps line old (Err ending) new p path = same path p.1
+tape-refused : (path frames : List ℕ) (why : Ending) (old : List Event) (ending : Ending) (new : List Event) → RefusesTape frames why old ending new → about path new ≡ about path old
+tape-refused path frames why old ending new (inl (kind, is, ends, p)) = tells-keeps path (kind_note kind) old new p
+tape-refused path frames why old ending new (inr p) = same path p.1
 
--- ## Where a program starts
+refused-if : (is : Bool) (path frames : List ℕ) (why : Ending) (old : List Event) (ending : Ending) (new : List Event) → kinds.RefusesIf is frames why old ending new → about path new ≡ about path old
+refused-if true path frames why old ending new p = tape-refused path frames why old ending new p
+refused-if false path frames why old ending new p = same path p.1
 
-cell-keeps : (is : Bool) (start : ℕ) → KeepsFiles (TellsCell is start)
-cell-keeps true start old result new p path = same path p.1
-cell-keeps false start old result new p path = program-line-keeps (Start start) old result new p path
+pub frames-refused : (path frames : List ℕ) (why : Ending) (old : List Event) (ending : Ending) (new : List Event) → RefusesFrames frames why old ending new → about path new ≡ about path old
+frames-refused path frames why old ending new p = refused-if (is_no_tape why) path frames why old ending new p
 
-start-keeps : (first start : ℕ) → KeepsFiles (TellsStart first start)
-start-keeps first start old result new (between, tells, p) path = cell-keeps (nat_eq start 0o200) start between result new p path ∙ tells-keeps path (start_note first start) old between tells
-
-starts-at-keeps : (given : Option ℕ) (first usual : ℕ) → KeepsFiles (StartsAt given first usual)
-starts-at-keeps (Some cell) first usual old result new p path = same path p.1
-starts-at-keeps None first usual old result new p path = then-keeps (TellsStart first usual) (λ it. Purely (IsJust usual)) (start-keeps first usual) (λ it. purely-keeps (IsJust usual)) old result new p path
-
-starts-if-keeps : (given first usual : Option ℕ) → KeepsFiles (StartsIf given first usual)
-starts-if-keeps given (Some first) (Some usual) old result new p path = starts-at-keeps given first usual old result new p path
-starts-if-keeps given (Some first) None old result new p path = same path p.1
-starts-if-keeps given None usual old result new p path = same path p.1
-
-finds-keeps : (frames : List ℕ) (given : Option ℕ) (items : List Item) → IsTape frames items → KeepsFiles (FindsStart frames given)
-finds-keeps frames given items is old result new p path = starts-if-keeps given (first_cell (words_of items)) (start_cell (words_of items)) old result new (p items is) path
-
--- what the crates below know of their steps is handed in
+-- what image_files knows of its steps is handed in
 module _
+    (looks-keeps : (name shown : List ℕ) → KeepsFiles (Looks name shown))
+    (looks-at-keeps : (form : ImageForm) → KeepsFiles (LooksAt form))
+    (input-keeps : KeepsFiles TakesInput)
     (prints-keeps : (bytes : List ℕ) → KeepsFiles (Prints bytes))
-    (program-keeps : (form : TapeForm) → KeepsFiles (ReadsProgram form))
-    (frames-keeps : (frames : List ℕ) (why : Ending) (old : List Event) (ending : Ending) (new : List Event) → RefusesFrames frames why old ending new → (path : List ℕ) → about path new ≡ about path old)
-    (output-keeps : (old new : List Event) (why : Option PrintFault) (path : List ℕ) → HasPrinted old new why → about path new ≡ about path old)
+    (refuses-keeps : (why : ArchiveFault) (size : ℕ) (old : List Event) (ending : Ending) (new : List Event) → Refuses why size old ending new → (path : List ℕ) → about path new ≡ about path old)
   where
-    loads-keeps : (frames : List ℕ) → KeepsFiles (LoadsCore frames)
-    loads-keeps frames old (Ok core) new p path = same path p.1
-    loads-keeps frames old (Err ending) new (inl p) path = same path p.1
-    loads-keeps frames old (Err ending) new (inr (why, loads, p)) path = frames-keeps frames (ending_of_tape why) old ending new p path
+    answers-keeps : {A : Type 0} (gives : Result A ArchiveFault → Type 0) (size : ℕ) → KeepsFiles (Answers gives size)
+    answers-keeps gives size old (Ok it) new p path = same path p.1
+    answers-keeps gives size old (Err ending) new (why, gave, p) path = refuses-keeps why size old ending new p path
 
-    program-loads : (frames : List ℕ) (given switches : Option ℕ) → KeepsFiles (LoadsProgram frames given switches)
-    program-loads frames given switches old (Ok program) new (inl ends) path = absurd ends
-    program-loads frames given switches old (Err ending) new (inl ends) path = loads-keeps frames old (Err ending) new ends path
-    program-loads frames given switches old result new (inr it) path =
-        then-keeps (FindsStart frames given) (λ start. Purely (IsJust (program_in it.given switches start))) (finds-keeps frames given it.done.0.items it.done.0.is_tape)
-        (λ start. purely-keeps (IsJust (program_in it.given switches start))) it.between result new it.after path ∙ same path it.done.1
+    -- ## Programs
 
-    run-keeps : (form : TraceForm) → KeepsFiles (ReadsRun form)
-    run-keeps form = then-keeps (ReadsProgram form.tape) (λ tape. Then (LoadsProgram tape.frames.items (start_or form.start tape.start) form.switches) (λ program. Purely (IsReady form tape.frames.items program)))
-        (program-keeps form.tape) (λ tape. then-keeps (LoadsProgram tape.frames.items (start_or form.start tape.start) form.switches) (λ program. Purely (IsReady form tape.frames.items program))
-        (program-loads tape.frames.items (start_or form.start tape.start) form.switches) (λ program. purely-keeps (IsReady form tape.frames.items program)))
+    file-keeps : (name : List ℕ) → KeepsFiles (Then (Looks name name) (λ frames. Purely (IsTapeProgram frames.items)))
+    file-keeps name = then-keeps (Looks name name) (λ frames. Purely (IsTapeProgram frames.items)) (looks-keeps name name) (λ frames. purely-keeps (IsTapeProgram frames.items))
+
+    core-keeps : (image : List ℕ) (wanted : Target) → KeepsFiles (ReadsCore image wanted)
+    core-keeps image wanted = then-keeps (Answers (Gets image wanted Frames) (length image)) (λ frames. Purely (IsCoreProgram frames.items))
+        (answers-keeps (Gets image wanted Frames) (length image)) (λ frames. purely-keeps (IsCoreProgram frames.items))
+
+    member-refused : (is : Bool) (path image : List ℕ) (wanted : Target) (why : ArchiveFault) (old : List Event) (ending : Ending) (new : List Event) → RefusesIf is image wanted why old ending new
+        → about path new ≡ about path old
+    member-refused true path image wanted why old ending new (inl (frames, gets, p)) = tape-refused path frames.items _ old ending new p
+    member-refused true path image wanted why old ending new (inr p) = answers-keeps (Gets image wanted Frames) (length image) old (Err ending) new p path
+    member-refused false path image wanted why old ending new p = refuses-keeps why (length image) old ending new p path
+
+    takes-keeps : (image : List ℕ) (wanted : Target) → KeepsFiles (TakesTape image wanted)
+    takes-keeps image wanted old (Ok program) new p path = same path p.2
+    takes-keeps image wanted old (Err ending) new (why, gets, p) path = member-refused (has_no_tape why) path image wanted why old ending new p
+
+    takes-if : (is : Bool) (image : List ℕ) (wanted : Target) → KeepsFiles (TakesIf is image wanted)
+    takes-if true image wanted = core-keeps image wanted
+    takes-if false image wanted = takes-keeps image wanted
+
+    member-keeps : (form : ImageForm) (name : List ℕ) → KeepsFiles (ReadsMember form name)
+    member-keeps form name = then-keeps (Purely (IsAsked name)) (λ asked. Then (LooksAt form) (λ bytes. TakesIf (is_core_name name) bytes.items (target_of asked))) (purely-keeps (IsAsked name))
+        (λ asked. then-keeps (LooksAt form) (λ bytes. TakesIf (is_core_name name) bytes.items (target_of asked)) (looks-at-keeps form) (λ bytes. takes-if (is_core_name name) bytes.items (target_of asked)))
+
+    pub program-keeps : (form : TapeForm) → KeepsFiles (ReadsProgram form)
+    program-keeps (tape.File file) old result new p path = file-keeps file.bytes.items old result new p path
+    program-keeps (tape.Member form name) old result new p path = member-keeps form name.bytes.items old result new p path
+
+    given-keeps : (form : Option TapeForm) → KeepsFiles (ReadsGiven form)
+    given-keeps None old result new p path = then-keeps TakesInput (λ frames. Purely (IsTapeProgram frames.items)) input-keeps (λ frames. purely-keeps (IsTapeProgram frames.items)) old result new p path
+    given-keeps (Some form) old result new p path = program-keeps form old result new p path
 
     -- ## The commands
 
-    pub profile-keeps : (form : TraceForm) → KeepsFiles (ProfilesTape form)
-    profile-keeps form = then-keeps (ReadsRun form) (λ run. Then (Purely (ProfileOn form.cpu (unwrap_or form.steps 1000000) run)) (λ text. Prints text.items)) (run-keeps form)
-        (λ run. then-keeps (Purely (ProfileOn form.cpu (unwrap_or form.steps 1000000) run)) (λ text. Prints text.items) (purely-keeps (ProfileOn form.cpu (unwrap_or form.steps 1000000) run)) (λ text. prints-keeps text.items))
+    lines-keeps : (frames : List ℕ) → KeepsFiles (GivesLines frames)
+    lines-keeps frames old (Ok text) new p path = same path p.1
+    lines-keeps frames old (Err ending) new (why, is, p) path = frames-refused path frames (Fault why) old ending new p
 
-    trace-ends : (cell : ℕ) (why : Option PrintFault) (done : Result Ended TraceFault) → KeepsFiles (EndsTrace cell why done)
-    trace-ends cell why (Ok ended) old result new p path = then-keeps (Purely (AreLines (program_line (Steps ended cell)))) (λ line. Prints line.items)
-        (purely-keeps (AreLines (program_line (Steps ended cell)))) (λ line. prints-keeps line.items) old result new p path
-    trace-ends cell why (Err trace.Memory) old result new p path = same path p.1
-    trace-ends cell why (Err trace.Writer) old result new p path = same path p.1
+    pub tape-keeps : (form : Option TapeForm) → KeepsFiles (ListsTape form)
+    tape-keeps form = then-keeps (ReadsGiven form) (λ program. Then (GivesLines program.frames.items) (λ text. Prints text.items)) (given-keeps form)
+        (λ program. then-keeps (GivesLines program.frames.items) (λ text. Prints text.items) (lines-keeps program.frames.items) (λ text. prints-keeps text.items))
 
-    prints-trace : (traces_to : ℕ → Option (List ℕ) → Option (List ℕ) → Result Ended TraceFault → Type 0) → KeepsFiles (PrintsTrace traces_to)
-    prints-trace traces_to old result new p path = trace-ends p.cell p.fault p.done p.between result new p.ends path ∙ output-keeps old p.between p.fault path p.prints
+    gets-keeps : (form : ImageForm) (name : List ℕ) → KeepsFiles (GetsMember form name)
+    gets-keeps form name = then-keeps (Purely (IsAsked name)) (λ asked. Then (LooksAt form) (λ bytes. Answers (Gets bytes.items (target_of asked) Frames) (length bytes.items))) (purely-keeps (IsAsked name))
+        (λ asked. then-keeps (LooksAt form) (λ bytes. Answers (Gets bytes.items (target_of asked) Frames) (length bytes.items)) (looks-at-keeps form)
+        (λ bytes. answers-keeps (Gets bytes.items (target_of asked) Frames) (length bytes.items)))
 
-    traces-on : (cpu : Cpu) (most : ℕ) (run : Run) → KeepsFiles (TracesOn cpu most run)
-    traces-on EightI most run = prints-trace (pdp8i.TracesTo most (pdp8i.terminal_of run) run.flags.items)
-    traces-on EightE most run = prints-trace (pdp8e.TracesTo most (pdp8e.terminal_of run) run.flags.items)
+    frames-keeps : (form : Option TapeForm) → KeepsFiles (ReadsFrames form)
+    frames-keeps None old result new p path = input-keeps old result new p path
+    frames-keeps (Some (tape.File file)) old result new p path = looks-keeps file.bytes.items file.bytes.items old result new p path
+    frames-keeps (Some (tape.Member form name)) old result new p path = gets-keeps form name.bytes.items old result new p path
 
-    pub trace-keeps : (form : TraceForm) → KeepsFiles (TracesTape form)
-    trace-keeps form = then-keeps (ReadsRun form) (λ run. TracesOn form.cpu (unwrap_or form.steps 1000) run) (run-keeps form) (λ run. traces-on form.cpu (unwrap_or form.steps 1000) run)
+    pub rim-keeps : (form : RimForm) (given : Option TapeForm) → KeepsFiles (WritesRim form given)
+    rim-keeps form given = then-keeps (ReadsFrames given) (λ frames. Then (Purely (GivesRim form frames.items)) (λ bytes. Prints bytes.items)) (frames-keeps given)
+        (λ frames. then-keeps (Purely (GivesRim form frames.items)) (λ bytes. Prints bytes.items) (purely-keeps (GivesRim form frames.items)) (λ bytes. prints-keeps bytes.items))
 
-    program-reads : (form : TeletypeForm) → KeepsFiles (ReadsProgramOf form)
-    program-reads form = then-keeps (ReadsProgram form.tape) (λ tape. LoadsProgram tape.frames.items (start_or form.start tape.start) form.switches)
-        (program-keeps form.tape) (λ tape. program-loads tape.frames.items (start_or form.start tape.start) form.switches)
+    names-keeps : (names : Option (String Global)) → KeepsFiles (ReadsNames names)
+    names-keeps None old (Ok names) new p path = same path p.1
+    names-keeps None old (Err ending) new p path = absurd p
+    names-keeps (Some file) old (Ok None) new p path = absurd p
+    names-keeps (Some file) old (Ok (Some names)) new p path = looks-keeps file.bytes.items file.bytes.items old (Ok names) new p path
+    names-keeps (Some file) old (Err ending) new p path = looks-keeps file.bytes.items file.bytes.items old (Err ending) new p path
 
-    run-ends : (stand : Stand) (why : Option PrintFault) (done : Result Ended TerminalFault) → KeepsFiles (EndsRun stand why done)
-    run-ends stand why (Ok ended) old result new p path = then-keeps (TellsProgram (line_of_end stand ended.why)) (λ it. Purely (IsEndOf ended.why)) (program-line-keeps (line_of_end stand ended.why)) (λ it. purely-keeps (IsEndOf ended.why))
-        old result new p path
-    run-ends stand why (Err Reader) old result new p path = same path p.1
-    run-ends stand why (Err Writer) old result new p path = same path p.1
+    gives-keeps : (pal8 : Bool) (frames starts : List ℕ) (names : Option (List ℕ)) → KeepsFiles (GivesSource pal8 frames starts names)
+    gives-keeps pal8 frames starts names old (Ok text) new p path = same path p.1
+    gives-keeps pal8 frames starts names old (Err ending) new (why, is, p) path = frames-refused path frames _ old ending new p
 
-    prints-run : (runs_to : Stand → Option (List ℕ) → Option (List ℕ) → Result Ended TerminalFault → Type 0) (keys : Reading) → KeepsFiles (PrintsRun runs_to keys)
-    prints-run runs_to keys old result new p path = run-ends p.stand p.fault p.done p.between result new p.ends path ∙ output-keeps old p.between p.fault path p.prints
-
-    runs-on : (cpu : Cpu) (form : TeletypeForm) (program : CoreProgram) (keys : Reading) → KeepsFiles (RunsOn cpu form program keys)
-    runs-on EightI form program keys = prints-run (pdp8i.RunsTo form program keys) keys
-    runs-on EightE form program keys = prints-run (pdp8e.RunsTo form program keys) keys
-
-    pub teletype-keeps : (form : TeletypeForm) (keys : Reading) → KeepsFiles (RunsTeletype form keys)
-    teletype-keeps form keys old (Ok it) new (inl p) path = absurd p.0
-    teletype-keeps form keys old (Err ending) new (inl p) path = program-reads form old (Err ending) new p.0 path
-    teletype-keeps form keys old result new (inr it) path = runs-on form.cpu form it.given keys it.between result new it.after path ∙ program-reads form old (Ok it.given) it.between it.done path
+    pub source-keeps : (form : SourceForm) → KeepsFiles (WritesSource form)
+    source-keeps form =
+        let named : Option (Vec ℕ) → Option (List ℕ) = option_map (λ names. names.items) in
+        then-keeps (ReadsNames form.names) (λ names. Then (ReadsGiven form.tape) (λ program. Then (GivesSource form.is_pal8 program.frames.items (starts_or form.starts.items program.start) (named names)) (λ text. Prints text.items)))
+        (names-keeps form.names) (λ names. then-keeps (ReadsGiven form.tape) (λ program. Then (GivesSource form.is_pal8 program.frames.items (starts_or form.starts.items program.start) (named names)) (λ text. Prints text.items))
+        (given-keeps form.tape) (λ program. then-keeps (GivesSource form.is_pal8 program.frames.items (starts_or form.starts.items program.start) (named names)) (λ text. Prints text.items)
+        (gives-keeps form.is_pal8 program.frames.items (starts_or form.starts.items program.start) (named names)) (λ text. prints-keeps text.items)))

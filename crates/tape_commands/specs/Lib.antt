@@ -1,11 +1,5 @@
-pub mod Lines
-pub mod CorePrograms
-pub mod Inputs
-pub mod Machines8e
-pub mod Machines8i
-pub mod Printing
-pub mod Profiles
-pub mod RunSteps
-pub mod Runs
-pub mod Teletypes
-pub mod Traces
+pub mod Kinds
+pub mod Programs
+pub mod Rims
+pub mod Sources
+pub mod Tapes

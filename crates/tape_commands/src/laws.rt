@@ -1,24 +1,29 @@
-//! What the commands on machines leave as it was.
-ghost use Rattle.byte_reader.specs.Readings.{reading};
-ghost use Rattle.program_tasks.specs.declared.tasks.TeletypeForm.{TeletypeForm};
-ghost use Rattle.program_tasks.specs.declared.tasks.TraceForm.{TraceForm};
+//! What the commands on tapes leave as it was.
+ghost use Rattle.std.specs.Prelude.{◌≡◌, ℕ, Option, List};
+ghost use Rattle.hosts.specs.Event.{Event};
+ghost use Rattle.hosts.specs.Place.{about};
+ghost use Rattle.outcome.specs.declared.endings.Ending.{Ending};
+ghost use Rattle.program_tasks.specs.declared.forms.TapeForm.{TapeForm};
+ghost use Rattle.program_tasks.specs.declared.tasks.RimForm.{RimForm};
+ghost use Rattle.program_tasks.specs.declared.tasks.SourceForm.{SourceForm};
 ghost use Rattle.image_files.specs.Laws.{KeepsFiles};
-ghost use Rattle.tape_commands.specs.Profiles.{ProfilesTape};
-ghost use Rattle.tape_commands.specs.Teletypes.{RunsTeletype};
-ghost use Rattle.tape_commands.specs.Traces.{TracesTape};
+ghost use Rattle.tape_commands.specs.Kinds.{RefusesFrames};
+ghost use Rattle.tape_commands.specs.Programs.{ReadsProgram};
+ghost use Rattle.tape_commands.specs.Rims.{WritesRim};
+ghost use Rattle.tape_commands.specs.Sources.{WritesSource};
+ghost use Rattle.tape_commands.specs.Tapes.{ListsTape};
 
-use byte_reader::ByteReader;
-use host_output::laws::prints_alone;
 use image_files::laws::kept_files;
-use program_commands::laws::unchanged_files as unchanged_programs;
 
-/// A law: none of these commands changes a file of the host, in whichever way it ends.
-pub fn unchanged_files<I: ByteReader>()
-    ensures profile { (form : TraceForm) → KeepsFiles (ProfilesTape form) }
-    ensures trace { (form : TraceForm) → KeepsFiles (TracesTape form) }
-    ensures teletype { (form : TeletypeForm) (before after : I) → KeepsFiles (RunsTeletype form (reading I.remaining I.has_failed before after)) }
+/// A law: none of these commands changes a file of the host, in whichever way it ends. Nor does the reading of a program for another, or the
+/// refusal of frames.
+pub fn unchanged_files()
+    ensures program { (form : TapeForm) → KeepsFiles (ReadsProgram form) }
+    ensures tape { (form : Option TapeForm) → KeepsFiles (ListsTape form) }
+    ensures rim { (form : RimForm) (tape : Option TapeForm) → KeepsFiles (WritesRim form tape) }
+    ensures frames { (frames : List ℕ) (fault : Ending) (old : List Event) (ending : Ending) (new : List Event) → RefusesFrames frames fault old ending new
+        → (path : List ℕ) → about path new ≡ about path old }
+    ensures source { (form : SourceForm) → KeepsFiles (WritesSource form) }
 {
     kept_files();
-    unchanged_programs();
-    prints_alone();
 }

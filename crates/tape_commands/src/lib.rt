@@ -1,18 +1,15 @@
-//! The commands that run the program of a tape, over any host: what is read, which machine runs, and what each stream gets.
+//! The commands that print a tape's words, what a RIM tape has, and a tape's source, over any host: what is read, and what each stream gets.
 #![tactic(auto)]
 
-mod core_programs;
-mod inputs;
+mod kinds;
 pub mod laws;
-mod lines;
-mod machines8e;
-mod machines8i;
-mod printing;
-mod profiles;
-mod runs;
-mod teletypes;
-mod traces;
+mod programs;
+mod rims;
+mod sources;
+mod tapes;
 
-pub use profiles::profile_tape;
-pub use teletypes::run_teletype;
-pub use traces::trace_tape;
+pub use kinds::refuse_frames;
+pub use programs::{Program, program_of};
+pub use rims::write_rim;
+pub use sources::write_source;
+pub use tapes::list_tape;

@@ -18,7 +18,7 @@ use Rattle.volume_commands.specs.Putting.{Puts}
 use Rattle.many_commands.specs.PuttingMany.{PutsMany}
 use Rattle.choice_commands.specs.Copying.{CopiesMany}
 use Rattle.archive_commands.specs.Patching.{PatchesWord}
-use Rattle.source_commands.specs.Assembling.{Assembles}
+use Rattle.assemble_commands.specs.Assembling.{Assembles}
 use Rattle.task_commands.specs.declared.changes.Change.{Change}
 use Rattle.task_commands.specs.declared.changes.Change.TheVariants as change
 use Rattle.task_commands.specs.declared.changes.TheConstants.{TRIES}

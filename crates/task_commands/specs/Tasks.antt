@@ -45,14 +45,14 @@ use Rattle.index_commands.specs.Indexing.{Indexes}
 use Rattle.index_commands.specs.declared.columns.LineShape.{LineShape}
 use Rattle.salvage_commands.specs.Rescuing.{RescuesImage}
 use Rattle.salvage_commands.specs.ScanningBlocks.{ShowsPieces, WritesPieces}
-use Rattle.program_commands.specs.Rims.{WritesRim}
-use Rattle.program_commands.specs.Sources.{WritesSource}
-use Rattle.program_commands.specs.Tapes.{ListsTape}
-use Rattle.source_commands.specs.Assembling.{Assembles}
+use Rattle.tape_commands.specs.Rims.{WritesRim}
+use Rattle.tape_commands.specs.Sources.{WritesSource}
+use Rattle.tape_commands.specs.Tapes.{ListsTape}
+use Rattle.assemble_commands.specs.Assembling.{Assembles}
 use Rattle.script_commands.specs.Scripts.{OpensFor, RunsOver}
-use Rattle.tape_commands.specs.Profiles.{ProfilesTape}
-use Rattle.tape_commands.specs.Teletypes.{RunsTeletype}
-use Rattle.tape_commands.specs.Traces.{TracesTape}
+use Rattle.run_commands.specs.Profiles.{ProfilesTape}
+use Rattle.run_commands.specs.Teletypes.{RunsTeletype}
+use Rattle.run_commands.specs.Traces.{TracesTape}
 use Rattle.task_commands.specs.Changes.{Within, file_for, seconds_for}
 use Rattle.image_files.specs.declared.states.ImageNotes.{ImageNotes}
 use Rattle.task_commands.specs.Changed.{AreNotesFor, image_of}

@@ -5,6 +5,7 @@ ghost use Rattle.task_commands.specs.Changes.{DoesChange, TellsBusy, Within, fil
 
 use archive_commands::{WordPatch, patch_word};
 use archive_files::Asked;
+use assemble_commands::assemble_files;
 use choice_commands::copy_files;
 use hosts::{Host, HostFault};
 use image_files::{Image, tell_reason};
@@ -15,7 +16,6 @@ use program_tasks::{
     PutOneForm, Saving,
 };
 use script_commands::open_image;
-use source_commands::assemble_files;
 use std::alloc::Global;
 use volume_commands::{
     copy_file, create_disk, create_image, create_tape, create_volume, delete_files, put_file,

@@ -17,14 +17,14 @@ use image_files::{ImageReading, Rooms, end};
 use index_commands::{LineShape, index_images};
 use many_commands::get_files;
 use outcome::{Ending, gives_data};
-use program_commands::{list_tape, write_rim, write_source};
 use program_tasks::{
     GetTextsForm, ImageForm, IndexForm, LineForm, PatchForm, RunForm, ScanForm, Task,
 };
+use run_commands::{profile_tape, run_teletype, trace_tape};
 use salvage_commands::{rescue_image, scan_blocks, scan_into};
 use script_commands::run_over;
 use std::alloc::{AllocError, Global};
-use tape_commands::{profile_tape, run_teletype, trace_tape};
+use tape_commands::{list_tape, write_rim, write_source};
 use volume_commands::{file_asked, get_bin, get_blocks, get_file};
 use volume_index::IndexStyle;
 use volume_reports::{check_images, list_files, list_places};

@@ -2,7 +2,7 @@ use Rattle.std.proofs.Common.{refl, ap, Option, Some, String, not, is_some}
 use Rattle.std.specs.Global.{Global}
 use Rattle.program_tasks.specs.declared.tasks.Task.TheVariants as task
 use Rattle.archive_commands.specs.Patching.{PatchesWord}
-use Rattle.source_commands.specs.Assembling.{Assembles}
+use Rattle.assemble_commands.specs.Assembling.{Assembles}
 use Rattle.task_commands.specs.Changes.{file_for, seconds_for}
 use Rattle.task_commands.specs.Tasks.{word_patch}
 use Rattle.volume_commands.specs.Creating.{CreatesVolume}

@@ -1,11 +1,17 @@
-use Rattle.tape_commands.proofs.KeepLemmas.{profile-keeps, trace-keeps, teletype-keeps}
+use Rattle.tape_commands.proofs.KeepLemmas.{frames-refused, program-keeps, tape-keeps, rim-keeps, source-keeps}
 use Rattle.tape_commands.proofs.laws.unchanged_files.Goals as goal
 
-pub returns-clause-profile : goal.returns-clause-profile
-returns-clause-profile g c = profile-keeps c.kept_files.ensures.prints c.unchanged_files.ensures.program c.unchanged_files.ensures.frames c.prints_alone.ensures.files
+pub returns-clause-program : goal.returns-clause-program
+returns-clause-program c = program-keeps c.kept_files.ensures.looks c.kept_files.ensures.looks_at c.kept_files.ensures.input c.kept_files.ensures.prints c.kept_files.ensures.refuses
 
-pub returns-clause-trace : goal.returns-clause-trace
-returns-clause-trace g c = trace-keeps c.kept_files.ensures.prints c.unchanged_files.ensures.program c.unchanged_files.ensures.frames c.prints_alone.ensures.files
+pub returns-clause-tape : goal.returns-clause-tape
+returns-clause-tape c = tape-keeps c.kept_files.ensures.looks c.kept_files.ensures.looks_at c.kept_files.ensures.input c.kept_files.ensures.prints c.kept_files.ensures.refuses
 
-pub returns-clause-teletype : goal.returns-clause-teletype
-returns-clause-teletype g c form before after = teletype-keeps c.kept_files.ensures.prints c.unchanged_files.ensures.program c.unchanged_files.ensures.frames c.prints_alone.ensures.files form _
+pub returns-clause-rim : goal.returns-clause-rim
+returns-clause-rim c = rim-keeps c.kept_files.ensures.looks c.kept_files.ensures.looks_at c.kept_files.ensures.input c.kept_files.ensures.prints c.kept_files.ensures.refuses
+
+pub returns-clause-source : goal.returns-clause-source
+returns-clause-source c = source-keeps c.kept_files.ensures.looks c.kept_files.ensures.looks_at c.kept_files.ensures.input c.kept_files.ensures.prints c.kept_files.ensures.refuses
+
+pub returns-clause-frames : goal.returns-clause-frames
+returns-clause-frames c = λ frames why old ending new p path. frames-refused path frames why old ending new p

@@ -1,0 +1,7 @@
+use Rattle.assemble_commands.proofs.KeepLemmas.{assembles-keeps}
+use Rattle.assemble_commands.proofs.laws.unchanged_files.Goals as goal
+
+pub returns : goal.returns
+returns c =
+    assembles-keeps c.kept_files.ensures.looks c.kept_files.ensures.looks_at c.kept_files.ensures.opens c.kept_files.ensures.input c.kept_files.ensures.prints
+    c.kept_files.ensures.refuses

@@ -1,0 +1,5 @@
+use Rattle.std.proofs.Common.{inr, rules}
+use Rattle.assemble_commands.proofs.places.keep_tape_at.Goals as goal
+
+pub returns : goal.returns
+returns g c = inr (record { given = tt; between = g.H.Host.history c.keep_sources.new.host; done = search rules; after = search rules })

@@ -1,5 +1,0 @@
-use Rattle.std.proofs.Common.{inr, refl}
-use Rattle.program_commands.proofs.programs.input_program.Goals as goal
-
-pub returns : goal.returns
-returns g c = inr (record { given = c.in_ok-frames.frames; between = g.H.Host.history c.input_bytes.new.host; done = c.in_ok-frames.ensures; after = (c.tape_program.ensures, refl) })

@@ -1,0 +1,11 @@
+use Rattle.run_commands.proofs.KeepLemmas.{profile-keeps, trace-keeps, teletype-keeps}
+use Rattle.run_commands.proofs.laws.unchanged_files.Goals as goal
+
+pub returns-clause-profile : goal.returns-clause-profile
+returns-clause-profile g c = profile-keeps c.kept_files.ensures.prints c.unchanged_files.ensures.program c.unchanged_files.ensures.frames c.prints_alone.ensures.files
+
+pub returns-clause-trace : goal.returns-clause-trace
+returns-clause-trace g c = trace-keeps c.kept_files.ensures.prints c.unchanged_files.ensures.program c.unchanged_files.ensures.frames c.prints_alone.ensures.files
+
+pub returns-clause-teletype : goal.returns-clause-teletype
+returns-clause-teletype g c form before after = teletype-keeps c.kept_files.ensures.prints c.unchanged_files.ensures.program c.unchanged_files.ensures.frames c.prints_alone.ensures.files form _

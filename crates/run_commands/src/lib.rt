@@ -1,0 +1,18 @@
+//! The commands that run the program of a tape, over any host: what is read, which machine runs, and what each stream gets.
+#![tactic(auto)]
+
+mod core_programs;
+mod inputs;
+pub mod laws;
+mod lines;
+mod machines8e;
+mod machines8i;
+mod printing;
+mod profiles;
+mod runs;
+mod teletypes;
+mod traces;
+
+pub use profiles::profile_tape;
+pub use teletypes::run_teletype;
+pub use traces::trace_tape;

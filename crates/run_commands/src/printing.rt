@@ -1,0 +1,120 @@
+//! What a run, a trace and a profile print at their end, whichever machine made the steps.
+ghost use Rattle.std.specs.Prelude.{◌≡◌, length};
+ghost use Rattle.word12.specs.declared.sizes.TheConstants.{CORE};
+ghost use Rattle.run_commands.specs.Printing as spec;
+ghost use Rattle.run_commands.specs.Printing.{EndsRun, EndsTrace, IsEndOf};
+ghost use Rattle.run_commands.specs.RunSteps.{ShowsCounts};
+
+use crate::lines::{ending_of_output, tell_program, text_of};
+use hosts::{Host, PrintFault};
+use image_files::print;
+use outcome::Ending;
+use profile8::profile_text;
+use program_reports::{ProgramLine, put_program};
+use script8::SessionFault;
+use std::alloc::Global;
+use terminal8::{Ended, TerminalEnd, TerminalFault};
+use trace8::TraceFault;
+use word12::{Cell, Word};
+
+/// Where a machine stands.
+#[derive(Clone, Copy)]
+pub(crate) struct Stand {
+    /// The cell of the next instruction, and its word.
+    pub(crate) cell: Cell,
+    pub(crate) word: Word,
+    pub(crate) ac: Word,
+    pub(crate) l: u8,
+
+    /// MQ, if the machine has one.
+    pub(crate) mq: Option<Word>,
+}
+
+/// Prints on standard error why a machine goes no further.
+pub(crate) fn end_run<H: Host>(
+    host: &mut H,
+    alloc: Global,
+    stand: Stand,
+    fault: Option<PrintFault>,
+    done: Result<Ended, TerminalFault>,
+) -> Result<(), Ending>
+    ensures { EndsRun stand fault done (H.history host.old) result (H.history host.new) }
+{
+    match done {
+        Ok(ended) => {
+            tell_program(host, alloc, &line_of_end(stand, ended.why))?;
+            end_of(ended.why)
+        }
+        Err(TerminalFault::Reader) => Err(Ending::Fault(SessionFault::Reader)),
+        Err(TerminalFault::Writer) => Err(ending_of_output(fault)),
+    }
+}
+
+/// The line of a machine that goes no further.
+fn line_of_end(stand: Stand, why: TerminalEnd) -> ProgramLine
+    ensures { result ≡ spec.line_of_end stand why }
+{
+    match why {
+        TerminalEnd::Halt => halted_line(stand),
+        TerminalEnd::Keys => ProgramLine::KeysEnd(stand.cell),
+        TerminalEnd::Unassigned => ProgramLine::Unassigned(stand.cell, stand.word),
+        TerminalEnd::Limit => ProgramLine::Limit(stand.cell),
+    }
+}
+
+/// The line of a machine that halted.
+fn halted_line(stand: Stand) -> ProgramLine
+    ensures { result ≡ spec.halted_line stand }
+{
+    match stand.mq {
+        Some(mq) => ProgramLine::HaltedWithMq(stand.cell, stand.ac, stand.l, mq),
+        None => ProgramLine::Halted(stand.cell, stand.ac, stand.l),
+    }
+}
+
+/// How a command ends whose machine goes no further: a HLT and the end of the keys are ends of a program's own.
+fn end_of(why: TerminalEnd) -> Result<(), Ending>
+    ensures { IsEndOf why result }
+{
+    match why {
+        TerminalEnd::Halt | TerminalEnd::Keys => Ok(()),
+        TerminalEnd::Unassigned | TerminalEnd::Limit => Err(Ending::Failure),
+    }
+}
+
+/// Prints the line of a trace's end, at which the machine stands before this cell.
+pub(crate) fn end_trace<H: Host>(
+    host: &mut H,
+    alloc: Global,
+    cell: Cell,
+    fault: Option<PrintFault>,
+    done: Result<Ended, TraceFault>,
+) -> Result<(), Ending>
+    ensures { EndsTrace cell fault done (H.history host.old) result (H.history host.new) }
+{
+    match done {
+        Ok(ended) => {
+            let line = text_of(alloc, &ProgramLine::Steps(ended, cell))?;
+            print(host, &line)
+        }
+        Err(TraceFault::Memory) => Err(Ending::Fault(SessionFault::Memory)),
+        Err(TraceFault::Writer) => Err(ending_of_output(fault)),
+    }
+}
+
+/// The profile of these counts, for a tape that gives the flagged cells a word, and the line of their end.
+pub(crate) fn counts_text(
+    alloc: Global,
+    counts: &[u64],
+    flags: &[bool],
+    ended: Ended,
+    cell: Cell,
+) -> Result<Vec<u8>, Ending>
+    requires counts { length counts.now ≡ CORE }
+    requires flags { length flags.now ≡ CORE }
+    ensures { ShowsCounts counts.now flags.now ended cell result }
+{
+    let mut text = profile_text(alloc, counts, flags)?;
+    put_program(&ProgramLine::Steps(ended, cell), &mut text)?;
+    Ok(text)
+}
