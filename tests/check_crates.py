@@ -24,7 +24,7 @@ ALONE = {
     "profile8e": "counts of fetches on the 8/E, which have nothing of a command",
     "instructions8": "laws over the assembler, the processor and the disassembler, which none of these can have",
     "text_columns": "columns that line up, of whatever text",
-    "keeper_laws": "laws over the commands that change an image",
+    "keeper_laws": "laws over the commands of several verbs",
     "program_laws": "laws over all tasks of the program",
     "host_output": "standard output as a writer, beside the host that it is of",
     "monitor8": "the public calls of the program",

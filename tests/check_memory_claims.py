@@ -37,7 +37,7 @@ PLACES: dict[str, dict[str, tuple[int, str]]] = {
     "archive_many/src/wishes.rt": {
         "add_word": (1, "`choose_files`'s own, in the arm of its pattern"),
     },
-    "choice_commands/src/listing.rt": {
+    "asked_files/src/refusals.rt": {
         "fault_text": (1, "`put_reply`'s own, in the arm of its pattern"),
     },
     "task_commands/src/refused_words.rt": {
@@ -46,10 +46,10 @@ PLACES: dict[str, dict[str, tuple[int, str]]] = {
     "image_files/src/answers.rt": {
         "put_stored": (1, "`put_program` can fail for nothing else"),
     },
-    "many_commands/src/giving.rt": {
+    "get_commands/src/giving.rt": {
         "tell_laid": (1, "`lay`'s own, which `line_of_laid` tells from the others"),
     },
-    "volume_commands/src/deleting.rt": {
+    "change_commands/src/deleting.rt": {
         "put_deleted": (1, "`put_program` can fail for nothing else"),
     },
     "pal8_asm/src/late.rt": {

@@ -1,4 +1,5 @@
 pub mod Laws
+pub mod Lines
 pub mod Rows
 pub mod Patching
 pub mod PatchLaws

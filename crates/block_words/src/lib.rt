@@ -5,10 +5,12 @@
 mod dumping;
 mod faults;
 pub mod laws;
+mod lines;
 pub mod patch_laws;
 mod patching;
 mod rows;
 
 pub use dumping::{DumpForm, put_block, put_words};
 pub use faults::PatchFault;
+pub use lines::{put_bits, put_number};
 pub use patching::{patch, word_at};

@@ -22,7 +22,7 @@ use Rattle.image_files.specs.Notes.{TellsOfImage}
 use Rattle.image_files.specs.Saving.{Prints}
 use Rattle.image_files.specs.Stored.{words_of}
 use Rattle.image_files.specs.Work.{Then}
-use Rattle.volume_commands.specs.GettingBack.{IsPrinted, PrintsOrLacks, ShowsIn}
+use Rattle.keeper_laws.specs.GettingBack.{IsPrinted, PrintsOrLacks, ShowsIn}
 use Rattle.keeper_laws.specs.Stored.{HasStored}
 
 answers-print : (gives : Result (Vec ℕ) ArchiveFault → Type 0) (size : ℕ) (bytes : List ℕ) → ((answer : Result (Vec ℕ) ArchiveFault) → gives answer → GivesOrLacks bytes answer)

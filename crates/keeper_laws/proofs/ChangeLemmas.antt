@@ -27,10 +27,10 @@ use Rattle.image_files.specs.Reading.{Opens}
 use Rattle.image_files.specs.Saving.{Stores}
 use Rattle.image_files.specs.Work.{Follows, Then, Purely}
 use Rattle.image_files.specs.declared.images.Image.{Image}
-use Rattle.volume_commands.specs.Asking.{AreNamed, wanted_files}
-use Rattle.volume_commands.specs.Changing.{Changes, GivesName, RefusesName, Renames, Squeezes}
-use Rattle.volume_commands.specs.Choosing.{AreWished, FindsAll, MeansFiles, MeansIf, RefusesWish, TellsRefused, one_of_several, word_at, words_in}
-use Rattle.volume_commands.specs.Deleting.{Deletes, RefusesFile, TakesMeant, TakesOut, deleted_lines}
+use Rattle.asked_files.specs.Asking.{AreNamed, wanted_files}
+use Rattle.change_commands.specs.Changing.{Changes, GivesName, RefusesName, Renames, Squeezes}
+use Rattle.change_commands.specs.Choosing.{AreWished, FindsAll, MeansFiles, MeansIf, RefusesWish, TellsRefused, one_of_several, word_at, words_in}
+use Rattle.change_commands.specs.Deleting.{Deletes, RefusesFile, TakesMeant, TakesOut, deleted_lines}
 use Rattle.keeper_laws.specs.Changes.{DeletesMeant, HasChanged, HasDeleted, HasRenamed, HasSqueezed}
 use Rattle.keeper_laws.specs.Ended.{EndsAs}
 use Rattle.keeper_laws.proofs.OpenLemmas.{FindsSaved, FindsUnsaved, HasOpened, has-opened, still}

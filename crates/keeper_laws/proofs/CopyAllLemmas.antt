@@ -26,9 +26,9 @@ use Rattle.image_files.specs.Saving.{Stores}
 use Rattle.image_files.specs.Work.{Then, Purely}
 use Rattle.image_files.specs.declared.images.Image.{Image}
 use Rattle.image_files.proofs.KeepLemmas.{looks-at-keeps}
-use Rattle.choice_commands.specs.Copying.{CopiesFrom, CopiesInto, CopiesMany, FindsAll, FindsFiles, OpensFrom, PutsFiles, TellsCopies, stored_lines, words_in}
-use Rattle.choice_commands.specs.Refusing.{RefusesCopies, RefusesWish, TellsFile, TellsWord}
-use Rattle.choice_commands.specs.Wishing.{AreWished}
+use Rattle.change_commands.specs.CopyingMany.{CopiesFrom, CopiesInto, CopiesMany, FindsAll, FindsFiles, OpensFrom, PutsFiles, TellsCopies, stored_lines, words_in}
+use Rattle.change_commands.specs.Refusing.{RefusesCopies, RefusesWish, TellsFile, TellsWord}
+use Rattle.asked_files.specs.Wishing.{AreWished}
 use Rattle.keeper_laws.specs.Changed.{GetsVolume}
 use Rattle.keeper_laws.specs.Copied.{IsSource}
 use Rattle.keeper_laws.specs.CopiedAll.{AreChosen, HasCopiedAll}

@@ -31,9 +31,8 @@ use Rattle.image_files.specs.Saving.{Stores}
 use Rattle.image_files.specs.Work.{Follows, Then, Purely}
 use Rattle.image_files.specs.declared.images.Image.{Image}
 use Rattle.image_files.specs.declared.mending.ImageReading.{ImageReading}
-use Rattle.volume_commands.specs.Asking.{MeansFile}
-use Rattle.volume_commands.specs.Copying.{Copies, CopiesFrom, CopiesInto, MakesCopy, RefusesCopy, TellsCopy, copied_lines, new_name}
-use Rattle.volume_commands.specs.Showing.{wanted_file}
+use Rattle.asked_files.specs.Asking.{MeansFile, wanted_file}
+use Rattle.change_commands.specs.Copying.{Copies, CopiesFrom, CopiesInto, MakesCopy, RefusesCopy, TellsCopy, copied_lines, new_name}
 use Rattle.keeper_laws.specs.Changed.{warnings}
 use Rattle.keeper_laws.specs.Copied.{HasCopied, IsSource}
 use Rattle.keeper_laws.specs.Ended.{EndsAs}

@@ -30,8 +30,8 @@ use Rattle.image_files.specs.Reasons.{TellsUnless, is_untold, is_want_of_memory,
 use Rattle.image_files.specs.Saving.{HasSaved, IsSyncTold, Reports, Writes}
 use Rattle.image_files.specs.Work.{Then}
 use Rattle.image_files.proofs.ReasonLemmas.{reason-keeps, unless-keeps, unless-output}
-use Rattle.volume_commands.specs.Creating.{CreatesFile, IsBlankDisk, IsBlankImage, IsBlankTapeFile, MakesIf, MakesVolume}
-use Rattle.volume_commands.specs.declared.creating.TheConstants.{TAPE_BLOCKS, DISK_BLOCKS}
+use Rattle.change_commands.specs.Creating.{CreatesFile, IsBlankDisk, IsBlankImage, IsBlankTapeFile, MakesIf, MakesVolume}
+use Rattle.change_commands.specs.declared.creating.TheConstants.{TAPE_BLOCKS, DISK_BLOCKS}
 use Rattle.keeper_laws.specs.Changed.{is_warning, warnings}
 use Rattle.keeper_laws.specs.Ended.{DoesNothing}
 use Rattle.keeper_laws.specs.Made.{EndsMade, GetsFile, HasCreated, IsFirst, MakesNone, MayBeInPart}

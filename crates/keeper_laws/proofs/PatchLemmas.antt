@@ -15,11 +15,11 @@ use Rattle.image_files.specs.Answers.{AreLines}
 use Rattle.image_files.specs.Saving.{Stores}
 use Rattle.image_files.specs.Work.{Then, Purely}
 use Rattle.image_files.specs.declared.images.Image.{Image}
-use Rattle.archive_commands.specs.Patching.{GivesPatched, PatchesWord, fault_text, patched_text}
-use Rattle.archive_commands.specs.Refusing.{EndsWith}
-use Rattle.archive_commands.specs.declared.patches.WordPatch.{WordPatch}
-use Rattle.volume_commands.specs.Creating.{CreatesVolume, IsBlankImage}
-use Rattle.volume_commands.specs.declared.creating.TheConstants.{DISK_BLOCKS}
+use Rattle.change_commands.specs.Patching.{GivesPatched, PatchesWord, fault_text, patched_text}
+use Rattle.change_commands.specs.PatchRefusals.{EndsWith}
+use Rattle.change_commands.specs.declared.patches.WordPatch.{WordPatch}
+use Rattle.change_commands.specs.Creating.{CreatesVolume, IsBlankImage}
+use Rattle.change_commands.specs.declared.creating.TheConstants.{DISK_BLOCKS}
 use Rattle.keeper_laws.specs.Changed.{GetsVolume, IsOpened}
 use Rattle.keeper_laws.specs.Changes.{HasChanged, HasEmptied, HasPatched}
 use Rattle.keeper_laws.specs.Ended.{EndsAs, RefusesAloud, SaysNo}

@@ -30,8 +30,8 @@ use Rattle.image_files.specs.Years.{NotesFiles, NotesYear, TellsDate, TellsFiles
 use Rattle.image_files.specs.declared.images.Image.{Image}
 use Rattle.image_files.proofs.KeepLemmas.{date-keeps, looks-keeps}
 use Rattle.image_files.proofs.WordsLemmas.{files-never, words-never, year-never}
-use Rattle.many_commands.specs.PuttingMany.{DatesNext, FindsFiles, IsNoName, JudgesInfo, JudgesPut, KeepsIf, KeepsWords, LooksWhole, MakesFile, MakesMany, NotesDates, PutsFiles, PutsMany, ReadsEach, ReadsNext, RefusesLoss, RefusesMany, TakesName, TellsEmpty, TellsPath, TellsText, TellsUnread, WantsMemory, has_empty, loss_from, paths_of, stored_lines}
-use Rattle.many_commands.specs.Texts.{TakesLists, TellsBadList, TellsFrames, is_put_noted, lists_of, put_form}
+use Rattle.put_commands.specs.PuttingMany.{DatesNext, FindsFiles, IsNoName, JudgesInfo, JudgesPut, KeepsIf, KeepsWords, LooksWhole, MakesFile, MakesMany, NotesDates, PutsFiles, PutsMany, ReadsEach, ReadsNext, RefusesLoss, RefusesMany, TakesName, TellsEmpty, TellsPath, TellsText, TellsUnread, WantsMemory, has_empty, loss_from, paths_of, stored_lines}
+use Rattle.asked_files.specs.Texts.{TakesLists, TellsBadList, TellsFrames, is_put_noted, lists_of, put_form}
 use Rattle.keeper_laws.specs.Changed.{GetsVolume, warnings}
 use Rattle.keeper_laws.specs.Ended.{DoesNothing, EndsAs}
 use Rattle.keeper_laws.specs.StoredAll.{AreGiven, HasStoredAll, IsGiven, given_calls}

@@ -27,7 +27,7 @@ use Rattle.image_files.specs.Stored.{TellsPlace, is_bad_text, stored_line, words
 use Rattle.image_files.specs.Work.{Follows, Then, Purely}
 use Rattle.image_files.specs.Years.{NotesYear, TellsShown, TellsUnless, is_same_year, last_for}
 use Rattle.image_files.specs.declared.images.Image.{Image}
-use Rattle.volume_commands.specs.Putting.{JudgesInfo, JudgesPut, KeepsWords, MakesNew, NotesDate, Puts, PutsInto, TellsIf}
+use Rattle.put_commands.specs.Putting.{JudgesInfo, JudgesPut, KeepsWords, MakesNew, NotesDate, Puts, PutsInto, TellsIf}
 use Rattle.keeper_laws.specs.Changed.{warnings}
 use Rattle.keeper_laws.specs.Ended.{EndsAs}
 use Rattle.keeper_laws.specs.Stored.{HasStored, IsDayFor, given_call}

@@ -15,13 +15,13 @@ use Rattle.program_tasks.specs.declared.forms.DeleteForm.{DeleteForm}
 use Rattle.program_tasks.specs.declared.forms.ImageForm.{ImageForm}
 use Rattle.image_files.specs.declared.images.Image.{Image}
 use Rattle.block_words.specs.Patching.{Patches}
-use Rattle.archive_commands.specs.Patching.{patched_text}
-use Rattle.archive_commands.specs.declared.patches.WordPatch.{WordPatch}
-use Rattle.volume_commands.specs.Asking.{wanted_files}
-use Rattle.volume_commands.specs.Choosing.{words_in}
-use Rattle.volume_commands.specs.Creating.{IsBlankImage}
-use Rattle.volume_commands.specs.Deleting.{deleted_lines}
-use Rattle.volume_commands.specs.declared.creating.TheConstants.{DISK_BLOCKS}
+use Rattle.change_commands.specs.Patching.{patched_text}
+use Rattle.change_commands.specs.declared.patches.WordPatch.{WordPatch}
+use Rattle.asked_files.specs.Asking.{wanted_files}
+use Rattle.change_commands.specs.Choosing.{words_in}
+use Rattle.change_commands.specs.Creating.{IsBlankImage}
+use Rattle.change_commands.specs.Deleting.{deleted_lines}
+use Rattle.change_commands.specs.declared.creating.TheConstants.{DISK_BLOCKS}
 use Rattle.keeper_laws.specs.Changed.{GetsVolume, IsOpened}
 
 -- A volume is changed. The image file was read, and nothing else. It has the volume now that its bytes give. The lines that report this were to

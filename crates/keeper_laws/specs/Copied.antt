@@ -12,8 +12,8 @@ use Rattle.program_tasks.specs.declared.forms.ImageForm.{ImageForm}
 use Rattle.image_files.specs.Pairs.{is_one_image}
 use Rattle.image_files.specs.Reading.{LooksAt}
 use Rattle.image_files.specs.declared.images.Image.{Image}
-use Rattle.volume_commands.specs.Copying.{copied_lines, new_name}
-use Rattle.volume_commands.specs.Showing.{wanted_file}
+use Rattle.change_commands.specs.Copying.{copied_lines, new_name}
+use Rattle.asked_files.specs.Asking.{wanted_file}
 use Rattle.keeper_laws.specs.Changed.{GetsVolume, IsOpened}
 
 -- the volume in another image file is found in what these calls read

@@ -11,7 +11,7 @@ use Rattle.archive_many.specs.declared.opened.VolumeFile.{VolumeFile}
 use Rattle.program_tasks.specs.declared.forms.CopyManyForm.{CopyManyForm}
 use Rattle.image_files.specs.Pairs.{is_one_image}
 use Rattle.image_files.specs.declared.images.Image.{Image}
-use Rattle.choice_commands.specs.Copying.{stored_lines, words_in}
+use Rattle.change_commands.specs.CopyingMany.{stored_lines, words_in}
 use Rattle.keeper_laws.specs.Changed.{GetsVolume, IsOpened}
 use Rattle.keeper_laws.specs.Copied.{IsSource}
 

@@ -3,6 +3,7 @@ pub mod Changes
 pub mod Copied
 pub mod CopiedAll
 pub mod Ended
+pub mod GettingBack
 pub mod Made
 pub mod Sound
 pub mod Stored

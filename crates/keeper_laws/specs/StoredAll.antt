@@ -12,8 +12,8 @@ use Rattle.image_files.specs.Dates.{word_of_day}
 use Rattle.image_files.specs.Stored.{words_of}
 use Rattle.image_files.specs.declared.dates.FileDay.{FileDay}
 use Rattle.image_files.specs.declared.images.Image.{Image}
-use Rattle.many_commands.specs.PuttingMany.{paths_of, stored_lines}
-use Rattle.many_commands.specs.Texts.{put_form}
+use Rattle.put_commands.specs.PuttingMany.{paths_of, stored_lines}
+use Rattle.asked_files.specs.Texts.{put_form}
 use Rattle.keeper_laws.specs.Changed.{GetsVolume, IsOpened}
 use Rattle.keeper_laws.specs.Stored.{IsDayFor}
 

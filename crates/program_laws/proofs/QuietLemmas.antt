@@ -52,15 +52,16 @@ use Rattle.image_files.specs.declared.images.Image.{Image}
 use Rattle.image_files.specs.declared.states.ChangeState.{ChangeState}
 use Rattle.image_files.specs.declared.states.ImageNotes.{ImageNotes}
 use Rattle.keeper_laws.specs.Ended.{DoesNothing}
-use Rattle.volume_commands.specs.Showing.{Shows, wanted_file}
-use Rattle.volume_commands.specs.ShowingParts.{ShowsBlocks, ShowsTape}
-use Rattle.volume_reports.specs.Checking.{ChecksImages}
-use Rattle.volume_reports.specs.Volumes.{ReportsOne}
-use Rattle.volume_reports.specs.declared.reports.ReportKind.{ReportKind}
-use Rattle.volume_reports.specs.declared.reports.ReportKind.TheVariants as report
-use Rattle.choice_commands.specs.Listing.{ListsSome}
-use Rattle.choice_commands.specs.Texts.{ShowsTexts}
-use Rattle.archive_commands.specs.Dumping.{Dumps, IsDump, form_of}
+use Rattle.get_commands.specs.Showing.{Shows}
+use Rattle.asked_files.specs.Asking.{wanted_file}
+use Rattle.get_commands.specs.ShowingParts.{ShowsBlocks, ShowsTape}
+use Rattle.show_commands.specs.Checking.{ChecksImages}
+use Rattle.show_commands.specs.Volumes.{ReportsOne}
+use Rattle.show_commands.specs.declared.reports.ReportKind.{ReportKind}
+use Rattle.show_commands.specs.declared.reports.ReportKind.TheVariants as report
+use Rattle.show_commands.specs.Listing.{ListsSome}
+use Rattle.get_commands.specs.Texts.{ShowsTexts}
+use Rattle.show_commands.specs.Dumping.{Dumps, IsDump, form_of}
 use Rattle.index_commands.specs.Indexing.{Indexes}
 use Rattle.index_commands.specs.declared.columns.LineShape.{LineShape}
 use Rattle.salvage_commands.specs.ScanningBlocks.{ShowsPieces}

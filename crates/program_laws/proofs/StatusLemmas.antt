@@ -21,7 +21,7 @@ use Rattle.outcome.specs.declared.outcomes.Outcome.{Outcome}
 use Rattle.outcome.specs.declared.outcomes.Stream.{Stream}
 use Rattle.outcome.specs.declared.outcomes.Stream.TheVariants.{Output, Errors}
 use Rattle.outcome.specs.Streams.{gives_data}
-use Rattle.archive_commands.specs.declared.patches.WordPatch.{WordPatch}
+use Rattle.change_commands.specs.declared.patches.WordPatch.{WordPatch}
 use Rattle.archive_files.specs.Asking.{Target}
 use Rattle.program_tasks.specs.declared.forms.CopyForm.{CopyForm}
 use Rattle.program_tasks.specs.declared.forms.CopyManyForm.{CopyManyForm}

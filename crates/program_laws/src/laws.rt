@@ -22,8 +22,8 @@ ghost use Rattle.program_tasks.specs.declared.tasks.Task.TheVariants as asked;
 ghost use Rattle.image_files.specs.Laws.{KeepsFiles, ChangesNothing};
 ghost use Rattle.assemble_commands.specs.Assembling.{Assembles};
 ghost use Rattle.task_commands.specs.Tasks.{DoesTask, RunsTask, word_patch};
-ghost use Rattle.volume_commands.specs.Creating.{IsBlankDisk, IsBlankImage, IsBlankTapeFile};
-ghost use Rattle.volume_commands.specs.declared.creating.TheConstants.{DISK_BLOCKS, TAPE_BLOCKS};
+ghost use Rattle.change_commands.specs.Creating.{IsBlankDisk, IsBlankImage, IsBlankTapeFile};
+ghost use Rattle.change_commands.specs.declared.creating.TheConstants.{DISK_BLOCKS, TAPE_BLOCKS};
 ghost use Rattle.program_laws.specs.Assembled.{HasAssembled, IsMapOf};
 ghost use Rattle.program_laws.specs.Quiet.{may_change};
 ghost use Rattle.program_laws.specs.Statuses.{Means, MeansMade, MeansPatch, MeansRescued};
@@ -34,24 +34,24 @@ ghost use Rattle.keeper_laws.specs.Ended.{EndsAs};
 ghost use Rattle.keeper_laws.specs.Made.{HasCreated};
 ghost use Rattle.keeper_laws.specs.Stored.{HasStored};
 ghost use Rattle.keeper_laws.specs.StoredAll.{HasStoredAll};
-ghost use Rattle.volume_commands.specs.GettingBack.{IsPrinted};
-ghost use Rattle.volume_commands.specs.Showing.{wanted_file};
+ghost use Rattle.keeper_laws.specs.GettingBack.{IsPrinted};
+ghost use Rattle.asked_files.specs.Asking.{wanted_file};
 
 use archive_files::laws::put_is_got;
 use assemble_commands::laws::unchanged_files as unchanged_sources;
 use bin_tape::laws::written_tape;
 use byte_reader::ByteReader;
-use choice_commands::laws::unchanged_files as unchanged_choices;
+use get_commands::laws::shown_files;
 use image_files::laws::found_again;
 use index_commands::laws::unchanged_files as unchanged_indexes;
 use keeper_laws::laws::{ended_changes, ended_creations, ended_many, ended_rescues, ended_words};
+use keeper_laws::verb_laws::unchanged_files as unchanged_choices;
 use pal_asm::laws::has_words as pal3_words;
 use pal8_tape::laws::has_words as pal8_words;
 use run_commands::laws::unchanged_files as unchanged_machines;
 use script_commands::laws::unchanged_files as unchanged_scripts;
+use show_commands::laws::shown_images;
 use tape_commands::laws::unchanged_files as unchanged_programs;
-use volume_commands::laws::shown_files;
-use volume_reports::laws::shown_images;
 
 /// A task that isn't to change a file changes none, in whichever way it ends.
 pub fn quiet_tasks<I: ByteReader>()

@@ -12,7 +12,7 @@ ghost use Rattle.pal8_tape.specs.Further.{ended_texts, faults_after, further_fau
 ghost use Rattle.word12.specs.declared.sizes.TheConstants.{BLOCK, CORE, FIELD, FIRST_FILE_BLOCK, MOST_BLOCKS, MOST_SOURCES, PAGE};
 ghost use Rattle.char_pack.specs.declared.packing.TheConstants.{BLOCK_FRAMES};
 ghost use Rattle.disk_layouts.specs.declared.sizes.TheConstants.{DISK, DISK_VOLUME, TAPE, TAPE_VOLUME};
-ghost use Rattle.volume_commands.specs.declared.creating.TheConstants.{DISK_BLOCKS, TAPE_BLOCKS};
+ghost use Rattle.change_commands.specs.declared.creating.TheConstants.{DISK_BLOCKS, TAPE_BLOCKS};
 ghost use Rattle.outcome.specs.declared.hints.TheConstants.{IMAGE};
 ghost use Rattle.script8.specs.declared.readings.TheConstants.{MOST};
 ghost use Rattle.pal_asm.specs.declared.spots.TheConstants.{FIRST_PLACE as FIRST_OF_PAL3};

@@ -9,15 +9,15 @@ use Rattle.outcome.specs.declared.contents.Content.TheVariants.{Image}
 use Rattle.outcome.specs.declared.endings.Ending.{Ending}
 use Rattle.outcome.specs.declared.endings.Ending.TheVariants.{Busy}
 use Rattle.archive_files.specs.Asking.{target_of}
-use Rattle.volume_commands.specs.Creating.{CreatesFile, CreatesVolume, IsBlankDisk, IsBlankImage, IsBlankTapeFile}
-use Rattle.volume_commands.specs.declared.creating.TheConstants.{DISK_BLOCKS, TAPE_BLOCKS}
-use Rattle.volume_commands.specs.Changing.{Renames, Squeezes}
-use Rattle.volume_commands.specs.Copying.{Copies}
-use Rattle.volume_commands.specs.Deleting.{Deletes}
-use Rattle.volume_commands.specs.Putting.{Puts}
-use Rattle.many_commands.specs.PuttingMany.{PutsMany}
-use Rattle.choice_commands.specs.Copying.{CopiesMany}
-use Rattle.archive_commands.specs.Patching.{PatchesWord}
+use Rattle.change_commands.specs.Creating.{CreatesFile, CreatesVolume, IsBlankDisk, IsBlankImage, IsBlankTapeFile}
+use Rattle.change_commands.specs.declared.creating.TheConstants.{DISK_BLOCKS, TAPE_BLOCKS}
+use Rattle.change_commands.specs.Changing.{Renames, Squeezes}
+use Rattle.change_commands.specs.Copying.{Copies}
+use Rattle.change_commands.specs.Deleting.{Deletes}
+use Rattle.put_commands.specs.Putting.{Puts}
+use Rattle.put_commands.specs.PuttingMany.{PutsMany}
+use Rattle.change_commands.specs.CopyingMany.{CopiesMany}
+use Rattle.change_commands.specs.Patching.{PatchesWord}
 use Rattle.assemble_commands.specs.Assembling.{Assembles}
 use Rattle.task_commands.specs.declared.changes.Change.{Change}
 use Rattle.task_commands.specs.declared.changes.Change.TheVariants as change

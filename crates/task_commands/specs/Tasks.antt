@@ -20,27 +20,28 @@ use Rattle.outcome.specs.declared.endings.Ending.TheVariants.{Fault}
 use Rattle.script8.specs.declared.faults.SessionFault.TheVariants.{Memory}
 use Rattle.image_files.specs.Work.{Then, Purely}
 use Rattle.image_files.specs.Ending.{EndsSo}
-use Rattle.volume_commands.specs.Creating.{CreatesFile, CreatesVolume, IsBlankDisk, IsBlankImage, IsBlankTapeFile}
-use Rattle.volume_commands.specs.declared.creating.TheConstants.{DISK_BLOCKS, TAPE_BLOCKS}
-use Rattle.volume_commands.specs.Changing.{Renames, Squeezes}
-use Rattle.volume_commands.specs.Copying.{Copies}
-use Rattle.volume_commands.specs.Deleting.{Deletes}
-use Rattle.volume_commands.specs.Putting.{Puts}
+use Rattle.change_commands.specs.Creating.{CreatesFile, CreatesVolume, IsBlankDisk, IsBlankImage, IsBlankTapeFile}
+use Rattle.change_commands.specs.declared.creating.TheConstants.{DISK_BLOCKS, TAPE_BLOCKS}
+use Rattle.change_commands.specs.Changing.{Renames, Squeezes}
+use Rattle.change_commands.specs.Copying.{Copies}
+use Rattle.change_commands.specs.Deleting.{Deletes}
+use Rattle.put_commands.specs.Putting.{Puts}
 use Rattle.image_files.specs.Reading.{reading_of}
-use Rattle.volume_commands.specs.Showing.{Shows, wanted_file}
-use Rattle.volume_commands.specs.ShowingParts.{ShowsBlocks, ShowsTape}
+use Rattle.get_commands.specs.Showing.{Shows}
+use Rattle.asked_files.specs.Asking.{wanted_file}
+use Rattle.get_commands.specs.ShowingParts.{ShowsBlocks, ShowsTape}
 use Rattle.image_files.specs.declared.mending.ImageReading.{ImageReading}
-use Rattle.volume_reports.specs.Checking.{ChecksImages}
-use Rattle.many_commands.specs.GettingMany.{GetsMany}
-use Rattle.many_commands.specs.PuttingMany.{PutsMany}
-use Rattle.volume_reports.specs.Volumes.{ReportsOne}
-use Rattle.volume_reports.specs.declared.reports.ReportKind.TheVariants as report
-use Rattle.choice_commands.specs.Copying.{CopiesMany}
-use Rattle.choice_commands.specs.Listing.{ListsSome}
-use Rattle.choice_commands.specs.Texts.{ShowsTexts}
-use Rattle.archive_commands.specs.Dumping.{Dumps}
-use Rattle.archive_commands.specs.Patching.{PatchesWord}
-use Rattle.archive_commands.specs.declared.patches.WordPatch.{WordPatch}
+use Rattle.show_commands.specs.Checking.{ChecksImages}
+use Rattle.get_commands.specs.GettingMany.{GetsMany}
+use Rattle.put_commands.specs.PuttingMany.{PutsMany}
+use Rattle.show_commands.specs.Volumes.{ReportsOne}
+use Rattle.show_commands.specs.declared.reports.ReportKind.TheVariants as report
+use Rattle.change_commands.specs.CopyingMany.{CopiesMany}
+use Rattle.show_commands.specs.Listing.{ListsSome}
+use Rattle.get_commands.specs.Texts.{ShowsTexts}
+use Rattle.show_commands.specs.Dumping.{Dumps}
+use Rattle.change_commands.specs.Patching.{PatchesWord}
+use Rattle.change_commands.specs.declared.patches.WordPatch.{WordPatch}
 use Rattle.index_commands.specs.Indexing.{Indexes}
 use Rattle.index_commands.specs.declared.columns.LineShape.{LineShape}
 use Rattle.salvage_commands.specs.Rescuing.{RescuesImage}

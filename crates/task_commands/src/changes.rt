@@ -3,24 +3,22 @@ ghost use Rattle.std.specs.Prelude.{◌≡◌};
 ghost use Rattle.script_commands.specs.Scripts.{OpensFor};
 ghost use Rattle.task_commands.specs.Changes.{DoesChange, TellsBusy, Within, file_of, seconds_of};
 
-use archive_commands::{WordPatch, patch_word};
 use archive_files::Asked;
 use assemble_commands::assemble_files;
-use choice_commands::copy_files;
+use change_commands::{
+    WordPatch, copy_file, copy_files, create_disk, create_image, create_tape, create_volume,
+    delete_files, patch_word, rename_file, squeeze_files,
+};
 use hosts::{Host, HostFault};
 use image_files::{Image, tell_reason};
-use many_commands::put_files;
 use outcome::{Content, Ending, Reason};
 use program_tasks::{
     AssembleForm, CopyForm, CopyManyForm, CreateForm, DeleteForm, ImageForm, PutManyForm,
     PutOneForm, Saving,
 };
+use put_commands::{put_file, put_files};
 use script_commands::open_image;
 use std::alloc::Global;
-use volume_commands::{
-    copy_file, create_disk, create_image, create_tape, create_volume, delete_files, put_file,
-    rename_file, squeeze_files,
-};
 
 /// How many times a second a command is tried again.
 pub const TRIES: u128 = 20;

@@ -8,14 +8,14 @@ ghost use Rattle.task_commands.specs.Tasks.{ChoosesStyle, DoesTask, ListsIndex, 
 use crate::asking::change_asked;
 use crate::changed::notes_for;
 use crate::changes::{Change, change_image, open_within};
-use archive_commands::{WordPatch, dump_blocks};
+use asked_files::file_asked;
 use byte_reader::ByteReader;
-use choice_commands::{list_some, show_texts};
+use change_commands::WordPatch;
 use command_table::SCRIPT_LINES;
+use get_commands::{get_bin, get_blocks, get_file, get_files, show_texts};
 use hosts::Host;
 use image_files::{ImageReading, Rooms, end};
 use index_commands::{LineShape, index_images};
-use many_commands::get_files;
 use outcome::{Ending, gives_data};
 use program_tasks::{
     GetTextsForm, ImageForm, IndexForm, LineForm, PatchForm, RunForm, ScanForm, Task,
@@ -23,11 +23,10 @@ use program_tasks::{
 use run_commands::{profile_tape, run_teletype, trace_tape};
 use salvage_commands::{rescue_image, scan_blocks, scan_into};
 use script_commands::run_over;
+use show_commands::{check_images, dump_blocks, list_files, list_places, list_some};
 use std::alloc::{AllocError, Global};
 use tape_commands::{list_tape, write_rim, write_source};
-use volume_commands::{file_asked, get_bin, get_blocks, get_file};
 use volume_index::IndexStyle;
-use volume_reports::{check_images, list_files, list_places};
 
 /// Does a task, and prints what its end asks for. The answer is the exit status: 0, 1 after a fault, 141 where nobody reads standard output,
 /// and 2 for words that a command refuses (this project's profile). Where standard output takes no line of a change, standard error says

@@ -1,8 +1,8 @@
 use Rattle.std.proofs.Common.{Ok, subst}
 use Rattle.archive_files.specs.Asking.{Target}
 use Rattle.archive_files.specs.Copying.{CopiesFile}
-use Rattle.volume_commands.specs.Copying.{new_name}
-use Rattle.volume_commands.specs.Showing.{wanted_file}
+use Rattle.change_commands.specs.Copying.{new_name}
+use Rattle.asked_files.specs.Asking.{wanted_file}
 use Rattle.keeper_laws.proofs.AgainLemmas.{copied-words, got-again, name-kept, name-typed, other-words}
 use Rattle.keeper_laws.proofs.BackLemmas.{is-printed}
 use Rattle.keeper_laws.proofs.laws.copy_comes_back.Goals as goal

@@ -1,5 +1,5 @@
-use Rattle.volume_commands.specs.Creating.{IsBlankDisk, IsBlankImage, IsBlankTapeFile}
-use Rattle.volume_commands.specs.declared.creating.TheConstants.{TAPE_BLOCKS, DISK_BLOCKS}
+use Rattle.change_commands.specs.Creating.{IsBlankDisk, IsBlankImage, IsBlankTapeFile}
+use Rattle.change_commands.specs.declared.creating.TheConstants.{TAPE_BLOCKS, DISK_BLOCKS}
 use Rattle.keeper_laws.proofs.MakeLemmas.{blank-line, create-ends, disk-line, tape-line}
 use Rattle.keeper_laws.proofs.laws.ended_creations.Goals as goal
 

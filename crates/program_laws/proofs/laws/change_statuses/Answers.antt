@@ -1,12 +1,12 @@
 use Rattle.std.proofs.Common.{refl}
 use Rattle.program_tasks.specs.declared.tasks.Task.TheVariants as task
-use Rattle.choice_commands.specs.Copying.{CopiesMany}
-use Rattle.many_commands.specs.PuttingMany.{PutsMany}
-use Rattle.volume_commands.specs.Changing.{Renames, Squeezes}
-use Rattle.volume_commands.specs.Copying.{Copies}
-use Rattle.volume_commands.specs.Deleting.{Deletes}
-use Rattle.volume_commands.specs.Putting.{Puts}
-use Rattle.volume_commands.specs.Showing.{wanted_file}
+use Rattle.change_commands.specs.CopyingMany.{CopiesMany}
+use Rattle.put_commands.specs.PuttingMany.{PutsMany}
+use Rattle.change_commands.specs.Changing.{Renames, Squeezes}
+use Rattle.change_commands.specs.Copying.{Copies}
+use Rattle.change_commands.specs.Deleting.{Deletes}
+use Rattle.put_commands.specs.Putting.{Puts}
+use Rattle.asked_files.specs.Asking.{wanted_file}
 use Rattle.keeper_laws.specs.Changes.{HasDeleted, HasRenamed, HasSqueezed}
 use Rattle.keeper_laws.specs.Copied.{HasCopied}
 use Rattle.keeper_laws.specs.CopiedAll.{HasCopiedAll}

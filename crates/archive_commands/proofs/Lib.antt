@@ -1,3 +1,0 @@
-pub mod DateLemmas
-pub mod DumpLemmas
-pub mod OwnerLemmas

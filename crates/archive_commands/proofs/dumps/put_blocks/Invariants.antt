@@ -1,6 +1,0 @@
-use Rattle.std.proofs.Common.{◌≡◌, ◌++◌}
-use Rattle.archive_commands.specs.Dumping.{block_lines}
-use Rattle.archive_commands.proofs.dumps.put_blocks.Given as goal
-
-abbrev pub invariant-loop-k : goal.invariant-loop-k
-invariant-loop-k l = l.text.items ≡ l.fn.text.items ++ block_lines l.form l.files l.image l.first l.k

@@ -1,0 +1,4 @@
+pub mod Asking
+pub mod Refusals
+pub mod Texts
+pub mod Wishing

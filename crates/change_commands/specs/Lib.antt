@@ -1,0 +1,13 @@
+pub mod Changing
+pub mod ChoiceSteps
+pub mod Choosing
+pub mod CopySteps
+pub mod Copying
+pub mod CopyingMany
+pub mod Creating
+pub mod DeleteSteps
+pub mod Deleting
+pub mod PatchRefusals
+pub mod Patching
+pub mod RefusalSteps
+pub mod Refusing

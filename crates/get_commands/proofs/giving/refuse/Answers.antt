@@ -1,0 +1,4 @@
+use Rattle.get_commands.proofs.giving.refuse.Goals as goal
+
+pub returns : goal.returns
+returns g c = rw c.in_ok-text.ensures at (rw c.deref.ensures.value at c.print_refused.ensures)

@@ -1,0 +1,34 @@
+//! What `get` leaves as it was, as laws.
+ghost use Rattle.std.specs.Prelude.{◌≡◌, false};
+ghost use Rattle.archive_files.specs.Getting.{Gets};
+ghost use Rattle.char_pack.specs.declared.forms.GetForm.{GetForm as How};
+ghost use Rattle.program_tasks.specs.declared.forms.BlocksForm.{BlocksForm as Blocks};
+ghost use Rattle.program_tasks.specs.declared.forms.FileForm.{FileForm as File};
+ghost use Rattle.program_tasks.specs.declared.forms.GetManyForm.{GetManyForm as GetMany};
+ghost use Rattle.program_tasks.specs.declared.forms.ImageForm.{ImageForm as Image};
+ghost use Rattle.asked_files.specs.Asking.{wanted_file};
+ghost use Rattle.image_files.specs.Laws.{KeepsFiles, NeverReplaces};
+ghost use Rattle.get_commands.specs.GettingMany.{GetsMany};
+ghost use Rattle.get_commands.specs.Laws.{ChangesIn, KeepsImage};
+ghost use Rattle.get_commands.specs.Showing.{Shows};
+ghost use Rattle.get_commands.specs.ShowingParts.{ShowsBlocks, ShowsTape};
+
+/// A command that shows what an image has changes no file, in whichever way it ends.
+pub fn shown_files()
+    ensures gets { (file : File) (how : How) (form : Image) → KeepsFiles (Shows (λ bytes. Gets bytes (wanted_file file) how) form) }
+    ensures blocks { (form : Blocks) → KeepsFiles (ShowsBlocks form) }
+    ensures tape { (file : File) (form : Image) → KeepsFiles (ShowsTape file form) }
+{}
+
+/// A command that gets several files to a folder changes no path but those of the folder, and replaces no file there unless that is asked
+/// for. What was there before is as it was.
+pub fn gotten_files()
+    ensures folder { (form : GetMany) → ChangesIn form.folder.bytes.items (GetsMany form) }
+    ensures older { (form : GetMany) → form.is_forced ≡ false → NeverReplaces (GetsMany form) }
+{}
+
+/// A command that gets several files changes no path unless the host said that it doesn't lead to the image, whatever their names are. So the
+/// image is as it was, in whichever way the command ends.
+pub fn kept_images()
+    ensures { (form : GetMany) → KeepsImage form.image.file.bytes.items (GetsMany form) }
+{}

@@ -1,0 +1,203 @@
+-- Commands that have changed no file where they are refused.
+use Rattle.std.proofs.Common.{ℕ, Bool, true, false, Option, None, Some, Result, Ok, Err, List, [], ◌∷◌, inl, inr, length, map, bytes_eq, codes}
+use Rattle.hosts.specs.Event.{Event}
+use Rattle.name_spelling.specs.Patterns.{has_pattern}
+use Rattle.outcome.specs.declared.endings.Ending.{Ending}
+use Rattle.archive_files.specs.Asking.{Target, AtBlock, target_of}
+use Rattle.archive_files.specs.declared.faults.ArchiveFault.{ArchiveFault}
+use Rattle.archive_files.specs.declared.faults.CopyFault.{CopyFault}
+use Rattle.archive_files.specs.declared.faults.CopyFault.TheVariants.{From, To}
+use Rattle.archive_files.specs.declared.faults.DeleteFault.{DeleteFault}
+use Rattle.archive_files.specs.declared.faults.DeleteFault.TheVariants.{Archive, Name}
+use Rattle.archive_files.specs.declared.faults.RenameFault.{RenameFault}
+use Rattle.archive_files.specs.declared.faults.RenameFault.TheVariants as rename
+use Rattle.archive_files.specs.declared.places.TextPlace.{TextPlace}
+use Rattle.archive_files.specs.declared.putting.NewImage.{NewImage}
+use Rattle.archive_many.specs.Cutting.{CutsFile}
+use Rattle.archive_files.specs.Squeezing.{SqueezesFiles}
+use Rattle.archive_many.specs.Opened.{OpensVolume}
+use Rattle.archive_many.specs.declared.wishes.Wish.{Wish}
+use Rattle.archive_many.specs.declared.wishes.Wish.TheVariants as wish
+use Rattle.program_tasks.specs.declared.forms.CopyForm.{CopyForm}
+use Rattle.program_tasks.specs.declared.forms.DeleteForm.{DeleteForm}
+use Rattle.program_tasks.specs.declared.forms.ImageForm.{ImageForm}
+use Rattle.program_tasks.specs.declared.forms.PutOneForm.{PutOneForm}
+use Rattle.image_files.specs.Dates.{DatesFile, word_of_day}
+use Rattle.image_files.specs.declared.dates.FileDay.{FileDay}
+use Rattle.image_files.specs.Answers.{Answers, AreLines}
+use Rattle.asked_files.specs.Asking.{AreNamed, MeansFile}
+use Rattle.change_commands.specs.Changing.{Changes, GivesName, RefusesName, Renames, Squeezes}
+use Rattle.change_commands.specs.Choosing.{AreWished, Chooses, FindsAll, MeansFiles, MeansIf, RefusesWish, TellsRefused, one_of_several, word_at, words_in}
+use Rattle.change_commands.specs.Copying.{Copies, CopiesFrom, CopiesInto, MakesCopy, RefusesCopy, TellsCopy, copied_lines}
+use Rattle.image_files.specs.Pairs.{RefusesIf, is_one_image, is_want_of}
+use Rattle.change_commands.specs.Deleting.{Deletes, TakesMeant, TakesOut, RefusesFile}
+use Rattle.put_commands.specs.Putting.{JudgesInfo, JudgesPut, KeepsWords, MakesNew, NotesDate, Puts, PutsInto, TellsIf}
+use Rattle.image_files.specs.Stored.{is_bad_text, TellsPlace, stored_line, words_of}
+use Rattle.image_files.specs.Inputs.{Reads, ReadsIf, TakesInput}
+use Rattle.image_files.specs.Reading.{LooksAt, Opens}
+use Rattle.image_files.specs.Saving.{Stores}
+use Rattle.archive_many.specs.Putting.{given_count, info_words, words_wanted}
+use Rattle.image_files.specs.Information.{TakesWords}
+use Rattle.image_files.proofs.WordsLemmas.{words-never, year-never}
+use Rattle.image_files.specs.Work.{Then, Purely}
+use Rattle.image_files.specs.declared.images.Image.{Image}
+use Rattle.image_files.specs.Laws.{KeepsFiles, ChangesNothing, LeavesFiles}
+use Rattle.image_files.proofs.KeepLemmas.{date-keeps, then-keeps, purely-keeps, looks-keeps, looks-at-keeps}
+use Rattle.image_files.proofs.LeaveLemmas.{same, told, then-leaves, refuses-never, answers-never, opens-never, stores-leaves}
+
+-- ## One change of an image
+
+-- the new image is saved, and its lines are printed
+lines-leave : (image : Image) (bytes text : List ℕ) → LeavesFiles (Then (Purely (AreLines text)) (λ lines. Stores image bytes lines.items))
+lines-leave image bytes text = then-leaves (Purely (AreLines text)) (λ lines. Stores image bytes lines.items) (purely-keeps (AreLines text)) (λ lines. stores-leaves image bytes lines.items)
+
+pub changes-leave : {A : Type 0} (answers : List ℕ → List Event → Result A Ending → List Event → Type 0) (image_of lines_of : A → List ℕ) (form : ImageForm) → ((bytes : List ℕ) → KeepsFiles (answers bytes))
+    → LeavesFiles (Changes answers image_of lines_of form)
+changes-leave answers image_of lines_of form never =
+    then-leaves (Opens form) (λ image. Then (answers image.bytes.items) (λ made. Then (Purely (AreLines (lines_of made))) (λ lines. Stores image (image_of made) lines.items)))
+    (opens-never form)
+    (λ image. then-leaves (answers image.bytes.items) (λ made. Then (Purely (AreLines (lines_of made))) (λ lines. Stores image (image_of made) lines.items))
+    (never image.bytes.items) (λ made. lines-leave image (image_of made) (lines_of made)))
+
+pub squeezes-leave : (form : ImageForm) → LeavesFiles (Squeezes form)
+squeezes-leave form = changes-leave (λ image. Answers (SqueezesFiles image) (length image)) _ _ form (λ image. answers-never (SqueezesFiles image) (length image))
+
+gives-name-never : (wanted : Target) (other image : List ℕ) → KeepsFiles (GivesName wanted other image)
+gives-name-never wanted other image old (Ok it) new p = same old new p.1
+gives-name-never wanted other image old (Err ending) new (why, renames, p) = refused why p
+  where
+    refused : (fault : RenameFault) → RefusesName fault (length image) old ending new → ChangesNothing old new
+    refused (rename.Archive fault) r = refuses-never fault (length image) old ending new r
+    refused rename.Exists r = same old new r.1
+
+pub renames-leave : (wanted : Target) (other : List ℕ) (form : ImageForm) → LeavesFiles (Renames wanted other form)
+renames-leave wanted other form = changes-leave (GivesName wanted other) _ _ form (gives-name-never wanted other)
+
+tells-refused : (wanted : Option Target) (old new : List Event) → TellsRefused wanted old new → ChangesNothing old new
+tells-refused None old new p = same old new p
+tells-refused (Some wanted) old new p = told p.0 _ old new p.1
+
+takes-out-never : (wanted : List Target) (image : List ℕ) → KeepsFiles (TakesOut wanted image)
+takes-out-never wanted image old (Ok it) new p = same old new p.1
+takes-out-never wanted image old (Err ending) new (inl (why, deletes, p)) = refused why p
+  where
+    refused : (fault : DeleteFault) → RefusesFile wanted fault (length image) old ending new → ChangesNothing old new
+    refused (Archive fault) r = refuses-never fault (length image) old ending new r
+    refused (Name place fault) r = tells-refused (one_of_several wanted place) old new r.1
+takes-out-never wanted image old (Err ending) new (inr p) = same old new p.1
+
+refuses-wish : (form : DeleteForm) (one : Wish) (old : List Event) (ending : Ending) (new : List Event) → RefusesWish form one old ending new → ChangesNothing old new
+refuses-wish form (wish.File file) old ending new p = absurd p
+refuses-wish form (wish.BadWord place) old ending new p = tells-refused (word_at form place) old new p.1
+refuses-wish form (wish.NotFound place) old ending new p = tells-refused (word_at form place) old new p.1
+refuses-wish form (wish.Block block) old ending new p = tells-refused (Some (AtBlock block)) old new p.1
+
+finds-all-never : (form : DeleteForm) (wishes : List Wish) → KeepsFiles (FindsAll form wishes)
+finds-all-never form wishes old (Ok files) new p = same old new p.2
+finds-all-never form wishes old (Err ending) new (inl (one, first, p)) = refuses-wish form one old ending new p
+finds-all-never form wishes old (Err ending) new (inr p) = same old new p.1
+
+chooses-never : (form : DeleteForm) (image : List ℕ) → KeepsFiles (Chooses form image)
+chooses-never form image =
+    then-keeps (Answers (OpensVolume image) (length image)) (λ blocks. Then (Purely (AreWished form blocks)) (λ wishes. FindsAll form wishes.items)) (answers-never (OpensVolume image) (length image))
+    (λ blocks. then-keeps (Purely (AreWished form blocks)) (λ wishes. FindsAll form wishes.items) (purely-keeps (AreWished form blocks)) (λ wishes. finds-all-never form wishes.items))
+
+means-if-never : (is : Bool) (form : DeleteForm) (image : List ℕ) → KeepsFiles (MeansIf is form image)
+means-if-never true form image = chooses-never form image
+means-if-never false form image = purely-keeps (AreNamed form)
+
+takes-meant-never : (form : DeleteForm) (image : List ℕ) → KeepsFiles (TakesMeant form image)
+takes-meant-never form image =
+    then-keeps (MeansFiles form image) (λ files. TakesOut (map target_of files.items) image) (means-if-never (has_pattern (words_in form)) form image) (λ files. takes-out-never (map target_of files.items) image)
+
+pub deletes-leave : (form : DeleteForm) → LeavesFiles (Deletes form)
+deletes-leave form = changes-leave (TakesMeant form) _ _ form.image (takes-meant-never form)
+
+-- ## A copy
+
+refuses-if : (is : Bool) (name : List ℕ) (fault : ArchiveFault) (size : ℕ) (old : List Event) (ending : Ending) (new : List Event) → RefusesIf is name fault size old ending new → ChangesNothing old new
+refuses-if true name fault size old ending new p = refuses-never fault size old ending new p
+refuses-if false name fault size old ending new p = refuses-never fault size _ ending new p.1
+
+refuses-copy : (form : CopyForm) (fault : CopyFault) (from to : ℕ) (old : List Event) (ending : Ending) (new : List Event) → RefusesCopy form fault from to old ending new → ChangesNothing old new
+refuses-copy form (From fault) from to old ending new p = refuses-if (is_want_of fault) form.image.file.bytes.items fault from old ending new p
+refuses-copy form (To fault) from to old ending new p = refuses-if (is_want_of fault) form.to.file.bytes.items fault to old ending new p
+
+makes-copy-never : (form : CopyForm) (wanted : Target) (from to : List ℕ) → KeepsFiles (MakesCopy form wanted from to)
+makes-copy-never form wanted from to old (Ok it) new p = same old new p.1
+makes-copy-never form wanted from to old (Err ending) new (inl (why, copies, p)) = refuses-copy form why (length from) (length to) old ending new p
+makes-copy-never form wanted from to old (Err ending) new (inr p) = same old new p.1
+
+tells-copy-never : (from : List ℕ) (wanted : Target) (to : List ℕ) (made : NewImage) → KeepsFiles (TellsCopy from wanted to made)
+tells-copy-never from wanted to made =
+    then-keeps (Answers (CutsFile from wanted to) (length from)) (λ cut. Purely (AreLines (copied_lines made cut))) (answers-never (CutsFile from wanted to) (length from)) (λ cut. purely-keeps (AreLines (copied_lines made cut)))
+
+copies-into : (form : CopyForm) (wanted : Target) (image : Image) (from : List ℕ) → LeavesFiles (CopiesInto form wanted image from)
+copies-into form wanted image from =
+    then-leaves (MakesCopy form wanted from image.bytes.items) (λ made. Then (TellsCopy from wanted image.bytes.items made) (λ line. Stores image made.bytes.items line.items))
+    (makes-copy-never form wanted from image.bytes.items)
+    (λ made. then-leaves (TellsCopy from wanted image.bytes.items made) (λ line. Stores image made.bytes.items line.items) (tells-copy-never from wanted image.bytes.items made) (λ line. stores-leaves image made.bytes.items line.items))
+
+copies-from : (is : Bool) (form : CopyForm) (wanted : Target) (image : Image) → LeavesFiles (CopiesFrom is form wanted image)
+copies-from true form wanted image = copies-into form wanted image image.bytes.items
+copies-from false form wanted image = then-leaves (LooksAt form.image) (λ from. CopiesInto form wanted image from.items) (looks-at-keeps form.image) (λ from. copies-into form wanted image from.items)
+
+pub copies-leave : (form : CopyForm) → LeavesFiles (Copies form)
+copies-leave form = then-leaves (Purely (MeansFile form.file)) (λ file. Then (Opens form.to) (λ image. CopiesFrom (is_one_image form.image form.to) form (target_of file) image)) (purely-keeps (MeansFile form.file))
+    (λ file. then-leaves (Opens form.to) (λ image. CopiesFrom (is_one_image form.image form.to) form (target_of file) image) (opens-never form.to)
+    (λ image. copies-from (is_one_image form.image form.to) form (target_of file) image))
+
+-- ## One file that is put
+
+takes-input-never : KeepsFiles TakesInput
+takes-input-never old (Ok bytes) new p = same _ new p.1
+takes-input-never old (Err ending) new (inl (fault, is, p)) = same _ new p
+takes-input-never old (Err ending) new (inr (bytes, many, inl (is, ok, p))) = same _ new p
+takes-input-never old (Err ending) new (inr (bytes, many, inr (is, p))) = same _ new p
+
+reads-if : (is : Bool) (name : List ℕ) → KeepsFiles (ReadsIf is name)
+reads-if true name old result new p = takes-input-never old result new p
+reads-if false name old result new p = looks-keeps name name old result new p
+
+keeps-words-never : (form : PutOneForm) (image bytes : List ℕ) → KeepsFiles (KeepsWords form image bytes)
+keeps-words-never form image bytes old (Ok it) new p = same old new p.1
+keeps-words-never form image bytes old (Err ending) new (inl (loss, is, ok, p)) = told ok _ old new p
+keeps-words-never form image bytes old (Err ending) new (inr (inl (why, opens, p))) = refuses-never why (length image) old ending new p
+keeps-words-never form image bytes old (Err ending) new (inr (inr p)) = same old new p.1
+
+tells-place : (place : Option TextPlace) (old new : List Event) → TellsPlace place old new → ChangesNothing old new
+tells-place None old new p = same old new p
+tells-place (Some place) old new p = told p.0 _ old new p.1
+
+tells-if : (is : Bool) (fault : ArchiveFault) (bytes : List ℕ) (size : ℕ) (old : List Event) (ending : Ending) (new : List Event) → TellsIf is fault bytes size old ending new → ChangesNothing old new
+tells-if true fault bytes size old ending new (is, (place, finds, p)) = tells-place place old new p
+tells-if false fault bytes size old ending new p = refuses-never fault size old ending new p
+
+makes-new-never : (form : PutOneForm) (image bytes : List ℕ) (date : Option ℕ) → KeepsFiles (MakesNew form image bytes date)
+makes-new-never form image bytes date old (Ok it) new p = same old new p.1
+makes-new-never form image bytes date old (Err ending) new (inl (why, puts, p)) = tells-if (is_bad_text why) why bytes (length image) old ending new p
+makes-new-never form image bytes date old (Err ending) new (inr p) = same old new p.1
+
+notes-date-never : (form : PutOneForm) (image : List ℕ) (day : Option FileDay) → KeepsFiles (NotesDate form image day)
+notes-date-never form image None = year-never image (info_words (words_of form.info)) form.year
+notes-date-never form image (Some day) = year-never image (day.word ∷ []) (Some day.year)
+
+judges-info-never : (form : PutOneForm) (image : List ℕ) (day : Option FileDay) → KeepsFiles (JudgesInfo form image day)
+judges-info-never form image day = then-keeps (TakesWords (words_wanted (given_count (words_of form.info)) (word_of_day day)) image) (λ it. NotesDate form image day)
+    (words-never (words_wanted (given_count (words_of form.info)) (word_of_day day)) image) (λ it. notes-date-never form image day)
+
+pub judges-never : (form : PutOneForm) (image bytes : List ℕ) (day : Option FileDay) → KeepsFiles (JudgesPut form image bytes day)
+judges-never form image bytes day = then-keeps (KeepsWords form image bytes) (λ it. JudgesInfo form image day) (keeps-words-never form image bytes) (λ it. judges-info-never form image day)
+
+puts-into : (form : PutOneForm) (image : Image) (bytes : List ℕ) (day : Option FileDay) → LeavesFiles (PutsInto form image bytes day)
+puts-into form image bytes day =
+    then-leaves (JudgesPut form image.bytes.items bytes day) (λ it. Then (MakesNew form image.bytes.items bytes (word_of_day day)) (λ made. Then (Purely (AreLines (stored_line made))) (λ line. Stores image made.bytes.items line.items)))
+    (judges-never form image.bytes.items bytes day)
+    (λ it. then-leaves (MakesNew form image.bytes.items bytes (word_of_day day)) (λ made. Then (Purely (AreLines (stored_line made))) (λ line. Stores image made.bytes.items line.items))
+    (makes-new-never form image.bytes.items bytes (word_of_day day)) (λ made. lines-leave image made.bytes.items (stored_line made)))
+
+pub puts-leave : (form : PutOneForm) → LeavesFiles (Puts form)
+puts-leave form =
+    then-leaves (Opens form.image) (λ image. Then (Reads form.file.bytes.items) (λ bytes. Then (DatesFile form.is_dated form.file.bytes.items) (λ day. PutsInto form image bytes.items day))) (opens-never form.image)
+    (λ image. then-leaves (Reads form.file.bytes.items) (λ bytes. Then (DatesFile form.is_dated form.file.bytes.items) (λ day. PutsInto form image bytes.items day)) (reads-if (bytes_eq form.file.bytes.items (codes "-")) form.file.bytes.items)
+    (λ bytes. then-leaves (DatesFile form.is_dated form.file.bytes.items) (λ day. PutsInto form image bytes.items day) (date-keeps form.is_dated form.file.bytes.items) (λ day. puts-into form image bytes.items day)))

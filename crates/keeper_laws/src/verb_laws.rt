@@ -1,0 +1,74 @@
+//! What commands of several verbs leave as it was, and what they get back, as laws.
+ghost use Rattle.std.specs.Prelude.{◌≡◌, Bool, ℕ, false, List, Option, Ok, Err, Result};
+ghost use Rattle.hosts.specs.Event.{Event};
+ghost use Rattle.hosts.specs.Place.{about};
+ghost use Rattle.archive_files.specs.Asking.{Target};
+ghost use Rattle.archive_files.specs.Getting.{Gets};
+ghost use Rattle.char_pack.specs.declared.forms.GetForm.{GetForm as How};
+ghost use Rattle.script8.specs.declared.faults.SessionFault.{SessionFault as Refused};
+ghost use Rattle.program_reports.specs.declared.programs.ProgramLine.{ProgramLine as Printed};
+ghost use Rattle.outcome.specs.declared.endings.Ending.{Ending};
+ghost use Rattle.outcome.specs.declared.endings.Ending.TheVariants.{Fault, Line};
+ghost use Rattle.program_tasks.specs.declared.forms.CopyForm.{CopyForm as Copy};
+ghost use Rattle.program_tasks.specs.declared.forms.CopyManyForm.{CopyManyForm as CopyMany};
+ghost use Rattle.program_tasks.specs.declared.forms.DeleteForm.{DeleteForm as Delete};
+ghost use Rattle.program_tasks.specs.declared.forms.FileForm.{FileForm as File};
+ghost use Rattle.program_tasks.specs.declared.forms.ImageForm.{ImageForm as Seen};
+ghost use Rattle.program_tasks.specs.declared.forms.ListForm.{ListForm as Listed};
+ghost use Rattle.program_tasks.specs.declared.forms.PutOneForm.{PutOneForm as PutOne};
+ghost use Rattle.image_files.specs.Laws.{KeepsFiles, LeavesFiles};
+ghost use Rattle.image_files.specs.Reading.{JudgesOpened};
+ghost use Rattle.image_files.specs.declared.dates.FileDay.{FileDay as Day};
+ghost use Rattle.image_files.specs.declared.images.Image.{Image as Opened};
+ghost use Rattle.image_files.specs.declared.reading.ImagePlace.{ImagePlace as Held};
+ghost use Rattle.asked_files.specs.Asking.{wanted_file};
+ghost use Rattle.change_commands.specs.Changing.{Squeezes, Renames};
+ghost use Rattle.change_commands.specs.Copying.{Copies};
+ghost use Rattle.change_commands.specs.CopyingMany.{CopiesMany};
+ghost use Rattle.change_commands.specs.Deleting.{Deletes};
+ghost use Rattle.get_commands.specs.Showing.{Shows};
+ghost use Rattle.get_commands.specs.Texts.{ShowsTexts};
+ghost use Rattle.put_commands.specs.Putting.{Puts, PutsInto};
+ghost use Rattle.show_commands.specs.Listing.{ListsSome};
+ghost use Rattle.keeper_laws.specs.GettingBack.{IsGotBack, LooksAndShows};
+
+use archive_files::laws::put_is_got;
+use image_files::laws::{found_again, kept_files, kept_kind};
+
+/// A command that is to change an image, and is refused, has changed no file: none is deleted of several.
+pub fn refused_changes()
+    ensures puts { (form : PutOne) → LeavesFiles (Puts form) }
+    ensures deletes { (form : Delete) → LeavesFiles (Deletes form) }
+    ensures copies { (form : Copy) → LeavesFiles (Copies form) }
+    ensures renames { (wanted : Target) (other : List ℕ) (form : Seen) → LeavesFiles (Renames wanted other form) }
+    ensures squeezes { (form : Seen) → LeavesFiles (Squeezes form) }
+{}
+
+/// A file that was put is got back, whatever kind of file its image is in. After a `put` that ended well, `get` of an image file with what the
+/// change left there prints the bytes that were put, or memory is wanted. Frames have zeros to the end of their last block. A tape is the one
+/// that they begin with, and a text has LF alone at the end of each line. What `get` does is to look at the image file, and then at its bytes.
+pub fn file_comes_back()
+    ensures puts { (form : PutOne) (place : Held) (file bytes : List ℕ) (day : Option Day) (image : Opened) (opening opened old new : List Event)
+        → JudgesOpened place form.image file opening (Ok image) opened → PutsInto form image bytes day old (Ok tt) new
+        → IsGotBack form image file bytes old new }
+    ensures gets { (file : File) (how : How) (form : Seen) (old new : List Event) (result : Result (Unit {0}) Ending) → form.is_lenient ≡ false
+        → Shows (λ bytes. Gets bytes (wanted_file file) how) form old result new
+        → LooksAndShows (λ bytes. Gets bytes (wanted_file file) how) form old result new }
+{
+    put_is_got();
+    found_again();
+    kept_kind();
+}
+
+/// A list of some files, or the texts of some, change no file of the host, in whichever way they end. A copy of several that is refused, by a
+/// fault or by a line, has changed none.
+pub fn unchanged_files()
+    ensures lists { (form : Listed) → KeepsFiles (ListsSome form) }
+    ensures texts { (image : Seen) (is_all : Bool) (words : List (List ℕ)) (places : List ℕ) → KeepsFiles (ShowsTexts image is_all words places) }
+    ensures faults { (form : CopyMany) (fault : Refused) (old new : List Event) → CopiesMany form old (Err (Fault fault)) new
+        → (path : List ℕ) → about path new ≡ about path old }
+    ensures lines { (form : CopyMany) (line : Printed) (old new : List Event) → CopiesMany form old (Err (Line line)) new
+        → (path : List ℕ) → about path new ≡ about path old }
+{
+    kept_files();
+}

@@ -1,5 +1,0 @@
-use Rattle.many_commands.proofs.GettingMany.{folder-alone, none-replaced}
-use Rattle.many_commands.proofs.laws.gotten_files.Goals as goal
-
-pub returns : goal.returns
-returns c = record { folder = folder-alone; older = none-replaced }

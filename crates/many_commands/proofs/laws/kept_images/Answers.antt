@@ -1,5 +1,0 @@
-use Rattle.many_commands.proofs.AskLemmas.{image-kept}
-use Rattle.many_commands.proofs.laws.kept_images.Goals as goal
-
-pub returns : goal.returns
-returns c = image-kept

@@ -1,0 +1,5 @@
+pub mod NameSteps
+pub mod PutManySteps
+pub mod PutSteps
+pub mod Putting
+pub mod PuttingMany

@@ -1,0 +1,187 @@
+//! Files of the host that are to be put under their own names.
+ghost use Rattle.std.specs.Prelude.{◌≡◌, ◌⊎◌, ◌||◌, List, [], ◌∷◌, ◌++◌, not, nat_eq, map, ℕ, IfOk, OnOk};
+ghost use Rattle.script8.specs.declared.faults.SessionFault.TheVariants.{Memory};
+ghost use Rattle.outcome.specs.declared.endings.Ending.TheVariants.{Fault};
+ghost use Rattle.archive_many.specs.declared.putting.NewFile.{NewFile as AsNew};
+ghost use Rattle.put_commands.specs.PuttingMany.{DatesNext, LooksWhole, MakesFile, ReadsEach, ReadsNext, RefusesName, RefusesPath, TakesName, TellsUnread};
+ghost use Rattle.put_commands.specs.NameSteps.{KnowsNames, has_key};
+
+use archive_many::{NewFile, volume_name};
+use asked_files::{note_put, put_form};
+use hosts::Host;
+use image_files::{FileDay, date_of_file, look_file, tell_note, word_of_day, year_of_day};
+use os8_dir::{FileFault, Name};
+use outcome::{Ending, NameNote, Note, PlainNote};
+use program_reports::ProgramLine;
+use program_tasks::TextsForm;
+use script8::SessionFault;
+use std::alloc::{AllocError, Global};
+use std::collections::BTreeSet;
+
+/// The files of these paths, which are read in their order.
+pub(crate) fn read_files<H: Host>(
+    host: &mut H,
+    alloc: Global,
+    texts: &TextsForm,
+    is_dated: bool,
+    paths: &[String],
+) -> Result<Vec<NewFile>, Ending>
+    ensures { ReadsEach texts.now is_dated [] (map (λ path. path.bytes.items) paths.now) (H.history host.old) result (H.history host.new) }
+{
+    let mut files = Vec::new(alloc);
+    let mut names = BTreeSet::new(alloc);
+    let mut rest = paths;
+    while let [path, others @ ..] = rest {
+        let file = read_next(host, alloc, texts, is_dated, path.as_str(), &mut names)?;
+        add(&mut files, file)?;
+        rest = others;
+    }
+    Ok(files)
+}
+
+fn add(files: &mut Vec<NewFile>, file: NewFile) -> Result<(), AllocError>
+    ensures { OnOk result (files.new.items ≡ files.old.items ++ file ∷ []) }
+{
+    files.push(file)?;
+    Ok(())
+}
+
+/// The file of a path, whose name is none of those that are known. It is known from then on.
+fn read_next<H: Host>(
+    host: &mut H,
+    alloc: Global,
+    texts: &TextsForm,
+    is_dated: bool,
+    path: &str,
+    names: &mut BTreeSet<u64>,
+) -> Result<NewFile, Ending>
+    ensures reads { (files : List AsNew) → KnowsNames names.old files
+        → ReadsNext texts.now is_dated files path.now (H.history host.old) result (H.history host.new) }
+    ensures names { IfOk result (λ file. (q : ℕ) → has_key names.new q ≡ (has_key names.old q || nat_eq file.name q)) }
+{
+    let name = take_name(host, alloc, path, names)?;
+    let bytes = look_whole(host, alloc, path)?;
+    let day = date_next(host, alloc, path, is_dated)?;
+    new_file(host, alloc, texts, path, name, bytes, &day)
+}
+
+/// The file of a path that has this name, these bytes and the date of a day, if there is one. It is printed where it is put as frames, and others as texts.
+fn new_file<H: Host>(
+    host: &mut H,
+    alloc: Global,
+    texts: &TextsForm,
+    path: &str,
+    name: Name,
+    bytes: Vec<u8>,
+    day: &Option<FileDay>,
+) -> Result<NewFile, Ending>
+    ensures { MakesFile texts.now path.now name bytes.items day.now (H.history host.old) result (H.history host.new) }
+{
+    note_put(host, alloc, texts, path, name)?;
+    Ok(NewFile {
+        name,
+        bytes,
+        form: put_form(texts, name),
+        date: word_of_day(day),
+        year: year_of_day(day),
+    })
+}
+
+/// The name that a path gives a file, which is none of those that are known. It is known from then on.
+fn take_name<H: Host>(
+    host: &mut H,
+    alloc: Global,
+    path: &str,
+    names: &mut BTreeSet<u64>,
+) -> Result<Name, Ending>
+    ensures takes { (files : List AsNew) → KnowsNames names.old files
+        → TakesName files path.now (H.history host.old) result (H.history host.new) }
+    ensures names { IfOk result (λ name. (q : ℕ) → has_key names.new q ≡ (has_key names.old q || nat_eq name q)) }
+{
+    let Some(name) = volume_name(path.as_bytes()) else {
+        return Err(refuse_path(host, alloc, path));
+    };
+    if add_name(names, name)? {
+        return Ok(name);
+    }
+    Err(refuse_name(host, alloc, path))
+}
+
+/// Adds a name to those that are known, and answers whether it is new.
+fn add_name(names: &mut BTreeSet<u64>, name: Name) -> Result<bool, AllocError>
+    ensures new { IfOk result (λ new. new ≡ not (has_key names.old name)) }
+    ensures more { IfOk result (λ new. (q : ℕ) → has_key names.new q ≡ (has_key names.old q || nat_eq name q)) }
+{
+    let new = names.insert(number_of(name))?;
+    Ok(new)
+}
+
+/// The four words of a name as one number to the base 0o10000.
+fn number_of(name: Name) -> u64
+    ensures { result ≡ name }
+{
+    let [a, b, c, d] = name.words();
+    let high = u64::from(a.get()) * 0o10000 + u64::from(b.get());
+    let low = u64::from(c.get()) * 0o10000 + u64::from(d.get());
+    high * 0o100000000 + low
+}
+
+/// How the command ends where a path spells no name of a volume. The path is printed, and what such names are.
+fn refuse_path<H: Host>(host: &mut H, alloc: Global, path: &str) -> Ending
+    ensures { RefusesPath path.now (H.history host.old) result (H.history host.new)
+        ⊎ ((result ≡ Fault Memory) × (H.history host.new ≡ H.history host.old)) }
+{
+    match tell_note(host, alloc, Note::OnName(NameNote::NotPut, path)) {
+        Ok(()) => {
+            let _ = host.tell(PlainNote::FileNames.text());
+            Ending::Fault(SessionFault::File(FileFault::BadName))
+        }
+        Err(error) => Ending::from(error),
+    }
+}
+
+/// How the command ends where an earlier path gives the name of this one, which is printed.
+fn refuse_name<H: Host>(host: &mut H, alloc: Global, path: &str) -> Ending
+    ensures { RefusesName path.now (H.history host.old) result (H.history host.new)
+        ⊎ ((result ≡ Fault Memory) × (H.history host.new ≡ H.history host.old)) }
+{
+    match tell_note(host, alloc, Note::OnName(NameNote::NotPut, path)) {
+        Ok(()) => Ending::Line(ProgramLine::SameName),
+        Err(error) => Ending::from(error),
+    }
+}
+
+/// All bytes of the file of a path. Where it is not read, the path is printed.
+fn look_whole<H: Host>(host: &mut H, alloc: Global, path: &str) -> Result<Vec<u8>, Ending>
+    ensures { LooksWhole path.now (H.history host.old) result (H.history host.new) }
+{
+    match look_file(host, alloc, path) {
+        Ok(bytes) => Ok(bytes),
+        Err(ending) => Err(tell_unread(host, alloc, path, ending)),
+    }
+}
+
+/// The day on which the file of a path was last changed, where that is asked for. Where it is not known, the path is printed.
+fn date_next<H: Host>(
+    host: &mut H,
+    alloc: Global,
+    path: &str,
+    is_dated: bool,
+) -> Result<Option<FileDay>, Ending>
+    ensures { DatesNext is_dated path.now (H.history host.old) result (H.history host.new) }
+{
+    match date_of_file(host, alloc, path, is_dated) {
+        Ok(day) => Ok(day),
+        Err(why) => Err(tell_unread(host, alloc, path, why)),
+    }
+}
+
+/// How the command ends where a file is not read for this. Its path is printed.
+fn tell_unread<H: Host>(host: &mut H, alloc: Global, path: &str, ending: Ending) -> Ending
+    ensures { TellsUnread path.now ending (H.history host.old) result (H.history host.new) }
+{
+    match tell_note(host, alloc, Note::OnName(NameNote::NotPut, path)) {
+        Ok(()) => ending,
+        Err(error) => Ending::from(error),
+    }
+}

@@ -1,0 +1,9 @@
+pub mod Checking
+pub mod DateSteps
+pub mod Dates
+pub mod DumpSteps
+pub mod Dumping
+pub mod Laws
+pub mod Listing
+pub mod Reporting
+pub mod Volumes

@@ -1,3 +1,0 @@
-pub mod GettingBack
-pub mod Looking
-pub mod Refusing

@@ -1,9 +1,0 @@
-use Rattle.std.proofs.Common.{◌≡◌, ◌++◌, length, map}
-use Rattle.archive_files.specs.Asking.{OfName, target_of}
-use Rattle.volume_commands.proofs.asking.add_names.Given as goal
-
-abbrev pub invariant-loop-rest : goal.invariant-loop-rest
-invariant-loop-rest l = map target_of l.files.items ++ map (λ name. OfName name.bytes.items) l.rest ≡ map target_of l.fn.files.items ++ map (λ name. OfName name.bytes.items) l.names
-
-abbrev pub decreases-loop-rest : goal.decreases-loop-rest
-decreases-loop-rest l = length l.rest

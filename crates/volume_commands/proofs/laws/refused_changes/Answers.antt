@@ -1,5 +1,0 @@
-use Rattle.volume_commands.proofs.Refusing.{copies-leave, deletes-leave, puts-leave, renames-leave, squeezes-leave}
-use Rattle.volume_commands.proofs.laws.refused_changes.Goals as goal
-
-pub returns : goal.returns
-returns c = record { puts = puts-leave; deletes = deletes-leave; copies = copies-leave; renames = renames-leave; squeezes = squeezes-leave }

@@ -1,7 +1,0 @@
-use Rattle.archive_files.specs.Getting.{Gets}
-use Rattle.volume_commands.specs.Showing.{wanted_file}
-use Rattle.volume_commands.proofs.Looking.{blocks-never, shows-never, tape-never}
-use Rattle.volume_commands.proofs.laws.shown_files.Goals as goal
-
-pub returns : goal.returns
-returns c = record { gets = λ file how. shows-never (λ bytes. Gets bytes (wanted_file file) how); blocks = blocks-never; tape = tape-never }

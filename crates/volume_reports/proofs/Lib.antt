@@ -1,4 +1,0 @@
-pub mod CountLemmas
-pub mod VolumeLemmas
-pub mod Looking
-pub mod Sounding

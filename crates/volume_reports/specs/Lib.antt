@@ -1,4 +1,0 @@
-pub mod Reporting
-pub mod Volumes
-pub mod Checking
-pub mod Laws
