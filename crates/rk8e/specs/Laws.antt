@@ -1,0 +1,37 @@
+-- What the laws say of every disk.
+use Rattle.std.specs.Prelude.{◌≡◌, ℕ, Bool, true, false, ◌&&◌, ◌||◌, nat_lt, is_some, is_none, Option, Some, None, List, []}
+use Rattle.rk8e.specs.Packs.{PackState, sector_word}
+use Rattle.rk8e.specs.State.{DriveState, DiskState, drive_of}
+use Rattle.rk8e.specs.Command.{drive_number, is_read, is_write}
+use Rattle.rk8e.specs.Time.{is_over}
+
+-- the words of a pack; without one there are none
+abbrev pub words_of : Option PackState → List ℕ
+words_of None = []
+words_of (Some pack) = pack.words
+
+-- word k of a sector of drive n
+abbrev pub map_word : DiskState → ℕ → ℕ → ℕ → ℕ
+map_word d n sector k = sector_word (words_of (drive_of d n).pack) sector k
+
+-- a function that writes ends now
+abbrev pub ends_write : DriveState → Bool
+ends_write drive = is_over drive.time_left && is_write drive.function
+
+-- a function that reads ends now
+abbrev pub ends_read : DriveState → Bool
+ends_read drive = is_over drive.time_left && is_read drive.function
+
+-- no write is under way on a locked drive
+abbrev pub IsGuarded : DriveState → Type 0
+IsGuarded drive = drive.locked ≡ true → (is_some drive.time_left && is_write drive.function) ≡ false
+
+abbrev pub AreGuarded : DiskState → Type 0
+AreGuarded d = (n : ℕ) → IsGuarded (drive_of d n)
+
+-- The command's drive refuses a function at a cylinder: it has no pack, it is not at rest or has no such cylinder, or it is locked
+-- and the function writes.
+abbrev pub refuses : DiskState → ℕ → ℕ → Bool
+refuses d function cylinder =
+    let drive = drive_of d (drive_number d.control) in
+    is_none drive.pack || ((is_some drive.time_left || nat_lt 202 cylinder) || (is_write function && drive.locked))
