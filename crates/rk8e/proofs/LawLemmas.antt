@@ -23,11 +23,11 @@ pub both : (a b : Bool) → (a && b) ≡ true → (a ≡ true) × (b ≡ true)
 both true b h = (refl, h)
 both false b h = absurd (true≢false (sym h))
 
-neither : (a b : Bool) → (a || b) ≡ false → a ≡ false
-neither true b h = h
-neither false b h = refl
+neither : (a b : Bool) → (a || b) ≡ false → (a ≡ false) × (b ≡ false)
+neither true b h = absurd (true≢false h)
+neither false b h = (refl, h)
 
-joined : (a b : Bool) → a ≡ true → b ≡ true → (a && b) ≡ true
+pub joined : (a b : Bool) → a ≡ true → b ≡ true → (a && b) ≡ true
 joined a b p q = rw (p, q) refl
 
 -- ## Drives by their numbers
@@ -35,13 +35,13 @@ joined a b p q = rw (p, q) refl
 past0 : (n : ℕ) → nat_eq (suc n) 0 ≡ false
 past0 n = grind (arith, nat_tests)
 
-far0 : (n : ℕ) → nat_eq (suc (suc (suc n))) 0 ≡ false
+pub far0 : (n : ℕ) → nat_eq (suc (suc (suc n))) 0 ≡ false
 far0 n = grind (arith, nat_tests)
 
-far1 : (n : ℕ) → nat_eq (suc (suc (suc n))) 1 ≡ false
+pub far1 : (n : ℕ) → nat_eq (suc (suc (suc n))) 1 ≡ false
 far1 n = grind (arith, nat_tests)
 
-far2 : (n : ℕ) → nat_eq (suc (suc (suc n))) 2 ≡ false
+pub far2 : (n : ℕ) → nat_eq (suc (suc (suc n))) 2 ≡ false
 far2 n = grind (arith, nat_tests)
 
 pub put_each : (P : DriveState → DriveState → Type 0) → ((v : DriveState) → P v v)
@@ -93,13 +93,16 @@ time_each P change each d (suc (suc (suc n))) = rw (far0 n, far1 n, far2 n) (eac
 
 -- ## How a function begins
 
-pub begun_each : (Q : DriveState → Type 0) (c : ControlState) (v : DriveState) (f cylinder : ℕ) → Q v
-    → (is_some v.time_left ≡ false → Q (record v { locked = true }))
-    → ((time : ℕ) → is_some v.time_left ≡ false → (is_write f && v.locked) ≡ false → Q (with_function v f cylinder time))
-    → Q (begun c v f cylinder).1
+pub begun_all : (Q : (ControlState × DriveState) → Type 0) (c : ControlState) (v : DriveState) (f cylinder : ℕ)
+    → ((bits : ℕ) → Q (with_status c bits, v))
+    → (is_some v.time_left ≡ false → Q (with_status c 0o4000, record v { locked = true }))
+    → ((time : ℕ) → is_some v.time_left ≡ false → (is_write f && v.locked) ≡ false → nat_eq f 3 ≡ true
+    → Q (with_status c 0o4000, with_function v f cylinder time))
+    → ((time : ℕ) → is_some v.time_left ≡ false → (is_write f && v.locked) ≡ false → nat_eq f 3 ≡ false → nat_lt 202 cylinder ≡ false
+    → Q (record c { busy = true }, with_function v f cylinder time))
+    → Q (begun c v f cylinder)
 unfolding begun
-begun_each Q c v f cylinder same locks moves =
-    let R : (ControlState × DriveState) → Type 0 = λ e. Q e.1 in
+begun_all Q c v f cylinder refused locks seeks moves =
     let seek : ControlState × DriveState = (with_status c 0o4000, with_function v f cylinder (max 10 (arm_time c v cylinder))) in
     let move : ControlState × DriveState = (record c { busy = true }, with_function v f cylinder (arm_time c v cylinder + c.disk_time)) in
     let third : ControlState × DriveState = if nat_eq f 3 then seek else move in
@@ -107,13 +110,20 @@ begun_each Q c v f cylinder same locks moves =
     let second : ControlState × DriveState = if nat_eq f 2 then lock else third in
     let first : ControlState × DriveState = if is_write f && v.locked then (with_status c 0o4020, v) else second in
     let ready : ControlState × DriveState = if is_some v.time_left || nat_lt 202 cylinder then (with_status c 0o4002, v) else first in
-    chosen R (is_none v.pack) (with_status c 0o4002, v) ready (λ _. same)
-    (λ _. chosen R (is_some v.time_left || nat_lt 202 cylinder) (with_status c 0o4002, v) first (λ _. same)
-    (λ rests. let rest : is_some v.time_left ≡ false = neither (is_some v.time_left) (nat_lt 202 cylinder) rests in
-    chosen R (is_write f && v.locked) (with_status c 0o4020, v) second (λ _. same)
-    (λ free. chosen R (nat_eq f 2) lock third (λ _. locks rest)
-    (λ _. chosen R (nat_eq f 3) seek move (λ _. moves (max 10 (arm_time c v cylinder)) rest free)
-    (λ _. moves (arm_time c v cylinder + c.disk_time) rest free)))))
+    chosen Q (is_none v.pack) (with_status c 0o4002, v) ready (λ _. refused 0o4002)
+    (λ _. chosen Q (is_some v.time_left || nat_lt 202 cylinder) (with_status c 0o4002, v) first (λ _. refused 0o4002)
+    (λ rests. let rest = neither (is_some v.time_left) (nat_lt 202 cylinder) rests in
+    chosen Q (is_write f && v.locked) (with_status c 0o4020, v) second (λ _. refused 0o4020)
+    (λ free. chosen Q (nat_eq f 2) lock third (λ _. locks rest.0)
+    (λ _. chosen Q (nat_eq f 3) seek move (seeks (max 10 (arm_time c v cylinder)) rest.0 free)
+    (λ no. moves (arm_time c v cylinder + c.disk_time) rest.0 free no rest.1)))))
+
+pub begun_each : (Q : DriveState → Type 0) (c : ControlState) (v : DriveState) (f cylinder : ℕ) → Q v
+    → (is_some v.time_left ≡ false → Q (record v { locked = true }))
+    → ((time : ℕ) → is_some v.time_left ≡ false → (is_write f && v.locked) ≡ false → Q (with_function v f cylinder time))
+    → Q (begun c v f cylinder).1
+begun_each Q c v f cylinder same locks moves =
+    begun_all (λ e. Q e.1) c v f cylinder (λ _. same) locks (λ time rest free _. moves time rest free) (λ time rest free _ _. moves time rest free)
 
 pub go_each : (P : DriveState → DriveState → Type 0) → ((v : DriveState) → P v v)
     → (d : DiskState) (f cylinder n : ℕ)
@@ -331,7 +341,7 @@ pub instruction_guarded : (d : DiskState) (pulses ac : ℕ) → AreGuarded d →
 instruction_guarded d pulses ac guarded n =
     instruction_each (λ v w. IsGuarded v → IsGuarded w) (λ v h. h) begun_guarded d pulses ac n (λ _ v _ _. refl) (guarded n)
 
-still : (t : Option ℕ) (count : ℕ) → is_some (time_after t count) ≡ is_some t
+pub still : (t : Option ℕ) (count : ℕ) → is_some (time_after t count) ≡ is_some t
 still None count = refl
 still (Some time) count = refl
 
@@ -353,7 +363,7 @@ ends_guarded d core guarded n =
     ends_each (λ v w. IsGuarded v → IsGuarded w) d core n
     (λ c m v words _ h. end_cases (λ e. IsGuarded e.drive) c m v words (λ _. h) (λ _ _. refl) (λ _ _ _. refl)) (guarded n)
 
-over_some : (t : Option ℕ) → is_over t ≡ true → is_some t ≡ true
+pub over_some : (t : Option ℕ) → is_over t ≡ true → is_some t ≡ true
 over_some None h = h
 over_some (Some time) h = refl
 

@@ -1,2 +1,3 @@
 pub mod LawLemmas
 pub mod MoveLemmas
+pub mod SettledLemmas

@@ -1,8 +1,9 @@
 -- What the laws say of every disk.
-use Rattle.std.specs.Prelude.{◌≡◌, ℕ, Bool, true, false, ◌&&◌, ◌||◌, nat_lt, is_some, is_none, Option, Some, None, List, []}
+use Rattle.std.specs.Prelude.{◌≡◌, ℕ, ◌<◌, Bool, true, false, ◌&&◌, ◌||◌, not, nat_eq, nat_lt, is_some, is_none, Option, Some, None, List, []}
+use Rattle.rk8e.specs.declared.sizes.TheConstants.{SECTORS}
 use Rattle.rk8e.specs.Packs.{PackState, sector_word}
-use Rattle.rk8e.specs.State.{DriveState, DiskState, drive_of}
-use Rattle.rk8e.specs.Command.{drive_number, is_read, is_write}
+use Rattle.rk8e.specs.State.{ControlState, DriveState, DiskState, drive_of}
+use Rattle.rk8e.specs.Command.{drive_number, sector_of, is_read, is_write}
 use Rattle.rk8e.specs.Time.{is_over}
 
 -- the words of a pack; without one there are none
@@ -35,3 +36,17 @@ abbrev pub refuses : DiskState → ℕ → ℕ → Bool
 refuses d function cylinder =
     let drive = drive_of d (drive_number d.control) in
     is_none drive.pack || ((is_some drive.time_left || nat_lt 202 cylinder) || (is_write function && drive.locked))
+
+-- a transfer is under way on a drive
+abbrev pub has_transfer : DriveState → Bool
+has_transfer drive = is_some drive.time_left && not (nat_eq drive.function 3)
+
+-- what the registers say of a transfer that is under way on drive n
+pub record IsUnderWay (c : ControlState) (n : ℕ) : Type 0 where
+  pub busy : c.busy ≡ true
+  pub drive : drive_number c ≡ n
+  pub sector : sector_of c < SECTORS
+
+-- a transfer that is under way is that of the registers: so there is one at most
+abbrev pub IsSettled : DiskState → Type 0
+IsSettled d = (n : ℕ) → n < 4 → has_transfer (drive_of d n) ≡ true → IsUnderWay d.control n

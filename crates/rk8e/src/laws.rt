@@ -9,7 +9,7 @@ ghost use Rattle.rk8e.specs.Go.{go};
 ghost use Rattle.rk8e.specs.Instructions.{instruction_row};
 ghost use Rattle.rk8e.specs.Time.{passed};
 ghost use Rattle.rk8e.specs.Transfer.{after_end, after_ends, cell_of, is_reached, word_written};
-ghost use Rattle.rk8e.specs.Laws.{map_word, ends_write, ends_read, AreGuarded, refuses};
+ghost use Rattle.rk8e.specs.Laws.{map_word, ends_write, ends_read, AreGuarded, IsSettled, refuses};
 
 /// No word of a sector changes, but by the end of a function that writes, on its drive, and of the one sector that DA and the command
 /// name. Instructions, time and clearing leave each pack as it is.
@@ -59,6 +59,16 @@ pub fn locked_is_kept()
     ensures time { (d : DiskState) (count : ℕ) → AreGuarded d → AreGuarded (passed d count) }
     ensures clearing { (d : DiskState) → AreGuarded (cleared d) }
     ensures ends { (d : DiskState) (core : List ℕ) → AreGuarded d → AreGuarded (after_ends d core).disk }
+{}
+
+/// At most one transfer is under way, that of the command's drive and of a sector that the pack has, and the control is busy then. So
+/// it is on a new disk, and instructions, time, clearing and ends keep it so.
+pub fn one_transfer()
+    ensures new { (seek_time disk_time : ℕ) → IsSettled (new_disk seek_time disk_time) }
+    ensures instructions { (d : DiskState) (pulses ac : ℕ) → IsSettled d → IsSettled (instruction_row d pulses ac) }
+    ensures time { (d : DiskState) (count : ℕ) → IsSettled d → IsSettled (passed d count) }
+    ensures clearing { (d : DiskState) → IsSettled (cleared d) }
+    ensures ends { (d : DiskState) (core : List ℕ) → IsSettled d → IsSettled (after_ends d core).disk }
 {}
 
 /// A function that is refused changes no drive, and no transfer is under way by it: so it moves no word.
