@@ -4,12 +4,12 @@ use Rattle.std.proofs.lemmas.Bool.{cases_lt}
 use Rattle.std.proofs.lemmas.Bool.Decides.{nat_tests}
 use Rattle.std.proofs.lemmas.List.{get_or_past}
 use Rattle.rk8e.specs.Packs.{PackState, sector_word}
-use Rattle.rk8e.specs.State.{ControlState, DriveState, DiskState, new_disk, drive_of, with_drive, with_control, with_each, at_rest, cleared, cleared_drive}
+use Rattle.rk8e.specs.State.{ControlState, DriveState, DiskState, new_disk, drive_of, with_drive, with_control, with_each, at_rest, after_clear, cleared_drive}
 use Rattle.rk8e.specs.Command.{drive_number, function_of, cylinder_of, sector_of, words_moved, is_read, is_write, with_status}
-use Rattle.rk8e.specs.Go.{begun, go, with_function, arm_time}
-use Rattle.rk8e.specs.Instructions.{busy_error, with_no_status, status_cleared, control_cleared, recalibrated, dclr_row, dlag_row, dlca_row, dldc_row, instruction_row}
-use Rattle.rk8e.specs.Time.{is_over, time_after, passed_by, passed}
-use Rattle.rk8e.specs.Transfer.{Ended, no_end, seek_end, transfer_end, end_on, after_end, after_ends, core_after, pack_after, core_read, pack_word, word_read, word_written, words_written, cell_of, place_of, is_reached}
+use Rattle.rk8e.specs.Go.{begin_on, go, with_function, arm_time}
+use Rattle.rk8e.specs.Instructions.{busy_error, with_no_status, status_cleared, control_cleared, after_recalibration, dclr_row, dlag_row, dlca_row, dldc_row, instruction_row}
+use Rattle.rk8e.specs.Time.{is_over, time_after, drive_after, disk_after}
+use Rattle.rk8e.specs.Transfer.{DriveEnd, no_end, seek_end, transfer_end, end_on, after_end, after_ends, core_after, pack_after, core_read, pack_word, word_read, word_written, words_written, cell_of, place_of, is_reached}
 use Rattle.rk8e.specs.Laws.{words_of, map_word, ends_write, ends_read, IsGuarded, AreGuarded, refuses}
 use Rattle.rk8e.proofs.MoveLemmas.{length-numbers, get_or-numbers, within_more, without, place_is}
 
@@ -100,8 +100,8 @@ pub begun_all : (Q : (ControlState × DriveState) → Type 0) (c : ControlState)
     → Q (with_status c 0o4000, with_function v f cylinder time))
     → ((time : ℕ) → is_some v.time_left ≡ false → (is_write f && v.locked) ≡ false → nat_eq f 3 ≡ false → nat_lt 202 cylinder ≡ false
     → Q (record c { busy = true }, with_function v f cylinder time))
-    → Q (begun c v f cylinder)
-unfolding begun
+    → Q (begin_on c v f cylinder)
+unfolding begin_on
 begun_all Q c v f cylinder refused locks seeks moves =
     let seek : ControlState × DriveState = (with_status c 0o4000, with_function v f cylinder (max 10 (arm_time c v cylinder))) in
     let move : ControlState × DriveState = (record c { busy = true }, with_function v f cylinder (arm_time c v cylinder + c.disk_time)) in
@@ -121,17 +121,17 @@ begun_all Q c v f cylinder refused locks seeks moves =
 pub begun_each : (Q : DriveState → Type 0) (c : ControlState) (v : DriveState) (f cylinder : ℕ) → Q v
     → (is_some v.time_left ≡ false → Q (record v { locked = true }))
     → ((time : ℕ) → is_some v.time_left ≡ false → (is_write f && v.locked) ≡ false → Q (with_function v f cylinder time))
-    → Q (begun c v f cylinder).1
+    → Q (begin_on c v f cylinder).1
 begun_each Q c v f cylinder same locks moves =
     begun_all (λ e. Q e.1) c v f cylinder (λ _. same) locks (λ time rest free _. moves time rest free) (λ time rest free _ _. moves time rest free)
 
 pub go_each : (P : DriveState → DriveState → Type 0) → ((v : DriveState) → P v v)
     → (d : DiskState) (f cylinder n : ℕ)
-    → P (drive_of d (drive_number d.control)) (begun d.control (drive_of d (drive_number d.control)) f cylinder).1
+    → P (drive_of d (drive_number d.control)) (begin_on d.control (drive_of d (drive_number d.control)) f cylinder).1
     → P (drive_of d n) (drive_of (go d f cylinder) n)
 go_each P same d f cylinder n h =
-    put_each P same d (begun d.control (drive_of d (drive_number d.control)) f cylinder).0 (drive_number d.control) n
-    (begun d.control (drive_of d (drive_number d.control)) f cylinder).1 h
+    put_each P same d (begin_on d.control (drive_of d (drive_number d.control)) f cylinder).0 (drive_number d.control) n
+    (begin_on d.control (drive_of d (drive_number d.control)) f cylinder).1 h
 
 -- ## What an instruction does to each drive
 
@@ -140,7 +140,7 @@ control_each : (P : DriveState → DriveState → Type 0) → ((v : DriveState) 
 control_each P same d c n = same (drive_of d n)
 
 pub instruction_each : (P : DriveState → DriveState → Type 0) → ((v : DriveState) → P v v)
-    → ((c : ControlState) (v : DriveState) (f cylinder : ℕ) → P v (begun c v f cylinder).1)
+    → ((c : ControlState) (v : DriveState) (f cylinder : ℕ) → P v (begin_on c v f cylinder).1)
     → (d : DiskState) (pulses ac n : ℕ)
     → ((nat_eq pulses 2 && nat_eq (ac % 4) 1) ≡ true → (v : DriveState) → P v (at_rest v))
     → P (drive_of d n) (drive_of (instruction_row d pulses ac) n)
@@ -154,12 +154,12 @@ instruction_each P same goes d pulses ac n rests =
     else if nat_eq pulses 6 then dldc_row d ac
     else d)
     (λ p. chosen Q (nat_eq (ac % 4) 0) (status_cleared d)
-    (if nat_eq (ac % 4) 1 then control_cleared d else if nat_eq (ac % 4) 2 then recalibrated d else with_no_status d)
+    (if nat_eq (ac % 4) 1 then control_cleared d else if nat_eq (ac % 4) 2 then after_recalibration d else with_no_status d)
     (λ _. chosen Q d.control.busy (busy_error (with_no_status d)) (with_no_status d) (λ _. plain) (λ _. plain))
     (λ _. chosen Q (nat_eq (ac % 4) 1) (control_cleared d)
-    (if nat_eq (ac % 4) 2 then recalibrated d else with_no_status d)
+    (if nat_eq (ac % 4) 2 then after_recalibration d else with_no_status d)
     (λ q. change_each P at_rest (rests (joined (nat_eq pulses 2) (nat_eq (ac % 4) 1) p q)) d (control_cleared d).control n)
-    (λ _. chosen Q (nat_eq (ac % 4) 2) (recalibrated d) (with_no_status d)
+    (λ _. chosen Q (nat_eq (ac % 4) 2) (after_recalibration d) (with_no_status d)
     (λ _. chosen Q d.control.busy (busy_error (with_no_status d)) (go (with_no_status d) 3 0) (λ _. plain)
     (λ _. go_each P same (with_no_status d) 3 0 n
     (goes (with_no_status d).control (drive_of d (drive_number d.control)) 3 0)))
@@ -177,7 +177,7 @@ instruction_each P same goes d pulses ac n rests =
 
 -- ## How a function ends
 
-pub end_cases : (Q : Ended → Type 0) (c : ControlState) (n : ℕ) (v : DriveState) (core : List ℕ)
+pub end_cases : (Q : DriveEnd → Type 0) (c : ControlState) (n : ℕ) (v : DriveState) (core : List ℕ)
     → (is_over v.time_left ≡ false → Q (no_end c v core))
     → (is_over v.time_left ≡ true → Q (seek_end c n v core))
     → (is_over v.time_left ≡ true → nat_eq v.function 3 ≡ false → Q (transfer_end c v core))
@@ -243,10 +243,10 @@ sector_kept_on c n v core sector k h ne =
 
 -- ## Reading and writing
 
-write_is_no_seek : (f : ℕ) → is_write f ≡ true → nat_eq f 3 ≡ false
+pub write_is_no_seek : (f : ℕ) → is_write f ≡ true → nat_eq f 3 ≡ false
 write_is_no_seek f h = grind (arith, nat_tests)
 
-read_is_no_seek : (f : ℕ) → is_read f ≡ true → nat_eq f 3 ≡ false
+pub read_is_no_seek : (f : ℕ) → is_read f ≡ true → nat_eq f 3 ≡ false
 read_is_no_seek f h = grind (arith, nat_tests)
 
 pub ended_transfer : (c : ControlState) (n : ℕ) (v : DriveState) (core : List ℕ) → is_over v.time_left ≡ true → nat_eq v.function 3 ≡ false
@@ -254,7 +254,7 @@ pub ended_transfer : (c : ControlState) (n : ℕ) (v : DriveState) (core : List 
 unfolding end_on
 ended_transfer c n v core over other = rw (over, other) refl
 
-written : (c : ControlState) (core words : List ℕ) (k : ℕ) → length words ≡ 1662976 → sector_of c < 6496 → k < 256
+pub written : (c : ControlState) (core words : List ℕ) (k : ℕ) → length words ≡ 1662976 → sector_of c < 6496 → k < 256
     → sector_word (words_written c core words) (sector_of c) k ≡ word_written c core k
 written c core words k size whole h =
     let s : (256 * sector_of c + k) / 256 ≡ sector_of c = omega arith in
@@ -272,11 +272,11 @@ written_on d core n k pack ends is size whole h =
     let e : end_on c n v core ≡ transfer_end c v core = ended_transfer c n v core two.0 (write_is_no_seek v.function two.1) in
     let p : pack_after c v.function v.pack core ≡ pack_after c 4 (Some pack) core = rw (is, two.1) refl in
     ap (λ (w : DriveState). sector_word (words_of w.pack) (sector_of c) k) (put_same d (end_on c n v core).control n (end_on c n v core).drive)
-    ∙ ap (λ (w : Ended). sector_word (words_of w.drive.pack) (sector_of c) k) e
+    ∙ ap (λ (w : DriveEnd). sector_word (words_of w.drive.pack) (sector_of c) k) e
     ∙ ap (λ (q : Option PackState). sector_word (words_of q) (sector_of c) k) p
     ∙ written c core pack.words k size whole h
 
-moved_cell : (c : ControlState) (words core : List ℕ) (k : ℕ) → c.memory_address < 4096 → cell_of c k < length core → k < words_moved c
+pub moved_cell : (c : ControlState) (words core : List ℕ) (k : ℕ) → c.memory_address < 4096 → cell_of c k < length core → k < words_moved c
     → k < 4096 → slice_index (core_read c words core) (cell_of c k) ≡ sector_word words (sector_of c) k
 moved_cell c words core k hm hc hk small =
     let p : place_of c (cell_of c k % 4096) ≡ k = place_is (c.command / 8 % 8) c.memory_address k (cell_of c k) hm small refl in
@@ -284,7 +284,7 @@ moved_cell c words core k hm hc hk small =
     get_or-numbers (length core) (word_read c (words_moved c) words core) (cell_of c k) hc
     ∙ within_more _ _ _ _ _ _ f (omega arith) ∙ ap (λ j. sector_word words (sector_of c) j) p
 
-few : (c : ControlState) → words_moved c ≤ 256
+pub few : (c : ControlState) → words_moved c ≤ 256
 few c = chosen (λ (w : ℕ). w ≤ 256) (nat_eq (c.command / 0o100 % 2) 1) 128 256 (λ _. omega arith) (λ _. omega arith)
 
 pub read_on : (d : DiskState) (core : List ℕ) (n k : ℕ) (pack : PackState) → ends_read (drive_of d n) ≡ true
@@ -297,10 +297,10 @@ read_on d core n k pack ends is hm hc hk =
     let e : end_on c n v core ≡ transfer_end c v core = ended_transfer c n v core two.0 (read_is_no_seek v.function two.1) in
     let p : core_after c v.function v.pack core ≡ core_read c pack.words core = rw (is, two.1) refl in
     let small : words_moved c ≤ 256 = few c in
-    ap (λ (w : Ended). slice_index w.core (cell_of c k)) e ∙ ap (λ (w : List ℕ). slice_index w (cell_of c k)) p
+    ap (λ (w : DriveEnd). slice_index w.core (cell_of c k)) e ∙ ap (λ (w : List ℕ). slice_index w (cell_of c k)) p
     ∙ moved_cell c pack.words core k hm hc hk (omega arith)
 
-other_cell : (c : ControlState) (f : ℕ) (pack : Option PackState) (core : List ℕ) (cell : ℕ) → cell < length core
+pub other_cell : (c : ControlState) (f : ℕ) (pack : Option PackState) (core : List ℕ) (cell : ℕ) → cell < length core
     → is_reached c (words_moved c) cell ≡ false → slice_index (core_after c f pack core) cell ≡ slice_index core cell
 other_cell c f None core cell h out = refl
 other_cell c f (Some pack) core cell h out =
@@ -333,7 +333,7 @@ second_free : (w l : Bool) → (w && l) ≡ false → l ≡ true → w ≡ false
 second_free true l h e = absurd (true≢false (sym e ∙ h))
 second_free false l h e = refl
 
-begun_guarded : (c : ControlState) (v : DriveState) (f cylinder : ℕ) → IsGuarded v → IsGuarded (begun c v f cylinder).1
+begun_guarded : (c : ControlState) (v : DriveState) (f cylinder : ℕ) → IsGuarded v → IsGuarded (begin_on c v f cylinder).1
 begun_guarded c v f cylinder guarded =
     begun_each IsGuarded c v f cylinder guarded (λ rest _. rw rest refl) (λ _ _ free locks. second_free (is_write f) v.locked free locks)
 
@@ -345,12 +345,12 @@ pub still : (t : Option ℕ) (count : ℕ) → is_some (time_after t count) ≡ 
 still None count = refl
 still (Some time) count = refl
 
-pub time_guarded : (d : DiskState) (count : ℕ) → AreGuarded d → AreGuarded (passed d count)
+pub time_guarded : (d : DiskState) (count : ℕ) → AreGuarded d → AreGuarded (disk_after d count)
 time_guarded d count guarded n =
-    time_each (λ v w. IsGuarded v → IsGuarded w) (passed_by count) (λ v h locks. rw (still v.time_left count) (h locks)) d n (guarded n)
+    time_each (λ v w. IsGuarded v → IsGuarded w) (drive_after count) (λ v h locks. rw (still v.time_left count) (h locks)) d n (guarded n)
 
-pub cleared_guarded : (d : DiskState) → AreGuarded (cleared d)
-cleared_guarded d n = change_each (λ v w. IsGuarded w) cleared_drive (λ v _. refl) d (cleared d).control n
+pub cleared_guarded : (d : DiskState) → AreGuarded (after_clear d)
+cleared_guarded d n = change_each (λ v w. IsGuarded w) cleared_drive (λ v _. refl) d (after_clear d).control n
 
 pub new_guarded : (seek_time disk_time : ℕ) → AreGuarded (new_disk seek_time disk_time)
 new_guarded seek_time disk_time zero = λ _. refl
@@ -385,11 +385,11 @@ locks_stay d pulses ac n =
     instruction_each (λ v w. v.locked ≡ true → w.locked ≡ true) (λ v h. h)
     (λ c v f cylinder h. begun_each (λ w. w.locked ≡ true) c v f cylinder h (λ _. refl) (λ _ _ _. h)) d pulses ac n (λ _ v h. h)
 
-pub locks_pass : (d : DiskState) (count n : ℕ) → (drive_of (passed d count) n).locked ≡ (drive_of d n).locked
-locks_pass d count n = time_each (λ v w. w.locked ≡ v.locked) (passed_by count) (λ v. refl) d n
+pub locks_pass : (d : DiskState) (count n : ℕ) → (drive_of (disk_after d count) n).locked ≡ (drive_of d n).locked
+locks_pass d count n = time_each (λ v w. w.locked ≡ v.locked) (drive_after count) (λ v. refl) d n
 
-pub locks_clear : (d : DiskState) (n : ℕ) → (drive_of (cleared d) n).locked ≡ (drive_of d n).locked
-locks_clear d n = change_each (λ v w. w.locked ≡ v.locked) cleared_drive (λ v. refl) d (cleared d).control n
+pub locks_clear : (d : DiskState) (n : ℕ) → (drive_of (after_clear d) n).locked ≡ (drive_of d n).locked
+locks_clear d n = change_each (λ v w. w.locked ≡ v.locked) cleared_drive (λ v. refl) d (after_clear d).control n
 
 pub locks_end : (d : DiskState) (core : List ℕ) (n : ℕ) → (drive_of (after_ends d core).disk n).locked ≡ (drive_of d n).locked
 locks_end d core n =
@@ -403,11 +403,11 @@ packs_stay d pulses ac n =
     instruction_each (λ v w. w.pack ≡ v.pack) (λ v. refl)
     (λ c v f cylinder. begun_each (λ w. w.pack ≡ v.pack) c v f cylinder refl (λ _. refl) (λ _ _ _. refl)) d pulses ac n (λ _ v. refl)
 
-pub packs_pass : (d : DiskState) (count n : ℕ) → (drive_of (passed d count) n).pack ≡ (drive_of d n).pack
-packs_pass d count n = time_each (λ v w. w.pack ≡ v.pack) (passed_by count) (λ v. refl) d n
+pub packs_pass : (d : DiskState) (count n : ℕ) → (drive_of (disk_after d count) n).pack ≡ (drive_of d n).pack
+packs_pass d count n = time_each (λ v w. w.pack ≡ v.pack) (drive_after count) (λ v. refl) d n
 
-pub packs_clear : (d : DiskState) (n : ℕ) → (drive_of (cleared d) n).pack ≡ (drive_of d n).pack
-packs_clear d n = change_each (λ v w. w.pack ≡ v.pack) cleared_drive (λ v. refl) d (cleared d).control n
+pub packs_clear : (d : DiskState) (n : ℕ) → (drive_of (after_clear d) n).pack ≡ (drive_of d n).pack
+packs_clear d n = change_each (λ v w. w.pack ≡ v.pack) cleared_drive (λ v. refl) d (after_clear d).control n
 
 pub sectors_end : (d : DiskState) (core : List ℕ) (n sector k : ℕ) → k < 256 → (ends_write (drive_of d n) ≡ true → sector ≢ sector_of d.control)
     → map_word (after_ends d core).disk n sector k ≡ map_word d n sector k
@@ -421,8 +421,8 @@ sectors_end d core n sector k h ne =
 
 refused_begun : (c : ControlState) (v : DriveState) (f cylinder : ℕ)
     → (is_none v.pack || ((is_some v.time_left || nat_lt 202 cylinder) || (is_write f && v.locked))) ≡ true
-    → ((begun c v f cylinder).1 ≡ v) × ((begun c v f cylinder).0.busy ≡ c.busy)
-unfolding begun
+    → ((begin_on c v f cylinder).1 ≡ v) × ((begin_on c v f cylinder).0.busy ≡ c.busy)
+unfolding begin_on
 refused_begun c v f cylinder h =
     let R : (ControlState × DriveState) → Type 0 = λ e. (e.1 ≡ v) × (e.0.busy ≡ c.busy) in
     let seek : ControlState × DriveState = (with_status c 0o4000, with_function v f cylinder (max 10 (arm_time c v cylinder))) in
@@ -444,7 +444,7 @@ refused_drives d f cylinder n h =
 pub refused_busy : (d : DiskState) (f cylinder : ℕ) → refuses d f cylinder ≡ true → (go d f cylinder).control.busy ≡ d.control.busy
 refused_busy d f cylinder h =
     let v = drive_of d (drive_number d.control) in
-    ap (λ (c : ControlState). c.busy) (put_control d (begun d.control v f cylinder).0 (drive_number d.control) (begun d.control v f cylinder).1)
+    ap (λ (c : ControlState). c.busy) (put_control d (begin_on d.control v f cylinder).0 (drive_number d.control) (begin_on d.control v f cylinder).1)
     ∙ (refused_begun d.control v f cylinder h).1
 
 -- ## Time
@@ -453,9 +453,9 @@ some_rests : (t : Option ℕ) (time : ℕ) → t ≡ Some time → is_some t ≡
 some_rests t time e h = true≢false (rw e at h)
 
 pub time_passes : (d : DiskState) (count n time : ℕ) → (drive_of d n).time_left ≡ Some time
-    → (drive_of (passed d count) n).time_left ≡ Some (time - count)
+    → (drive_of (disk_after d count) n).time_left ≡ Some (time - count)
 time_passes d count n time =
-    time_each (λ v w. v.time_left ≡ Some time → w.time_left ≡ Some (time - count)) (passed_by count)
+    time_each (λ v w. v.time_left ≡ Some time → w.time_left ≡ Some (time - count)) (drive_after count)
     (λ v h. ap (λ (t : Option ℕ). time_after t count) h) d n
 
 pub time_stays : (d : DiskState) (pulses ac n time : ℕ) → (drive_of d n).time_left ≡ Some time → (nat_eq pulses 2 && nat_eq (ac % 4) 1) ≡ false

@@ -1,3 +1,4 @@
 pub mod LawLemmas
 pub mod MoveLemmas
 pub mod SettledLemmas
+pub mod StepLemmas

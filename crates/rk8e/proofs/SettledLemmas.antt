@@ -1,14 +1,14 @@
 -- At most one transfer is under way.
-use Rattle.std.proofs.Common.{◌≡◌, ℕ, zero, suc, ◌/◌, ◌%◌, ◌<◌, ◌≤◌, ◌⊎◌, Bool, true, false, ◌&&◌, not, nat_eq, nat_lt, is_some, if◌then◌else◌, List, arith, refl, ap, sym, subst, ◌∙◌, inl, inr, true≢false}
+use Rattle.std.proofs.Common.{◌≡◌, ℕ, zero, suc, ◌/◌, ◌%◌, ◌<◌, ◌≤◌, ◌⊎◌, Bool, true, false, ◌&&◌, not, nat_eq, is_some, if◌then◌else◌, List, arith, refl, ap, sym, subst, ◌∙◌, inl, inr, true≢false}
 use Rattle.std.proofs.lemmas.Bool.{ltb-false}
-use Rattle.rk8e.specs.State.{ControlState, DriveState, DiskState, new_disk, drive_of, with_drive, with_control, with_each, at_rest, cleared, cleared_drive}
+use Rattle.rk8e.specs.State.{ControlState, DriveState, DiskState, new_disk, drive_of, with_drive, with_control, at_rest, after_clear, cleared_drive}
 use Rattle.rk8e.specs.Command.{drive_number, function_of, cylinder_of, sector_of, with_status}
-use Rattle.rk8e.specs.Go.{begun, go}
-use Rattle.rk8e.specs.Instructions.{busy_error, with_no_status, status_cleared, control_cleared, recalibrated, dclr_row, dlag_row, dlca_row, dldc_row, instruction_row}
-use Rattle.rk8e.specs.Time.{is_over, time_after, passed_by, passed}
+use Rattle.rk8e.specs.Go.{begin_on, go}
+use Rattle.rk8e.specs.Instructions.{busy_error, with_no_status, status_cleared, control_cleared, after_recalibration, dclr_row, dlag_row, dlca_row, dldc_row, instruction_row}
+use Rattle.rk8e.specs.Time.{is_over, drive_after, disk_after}
 use Rattle.rk8e.specs.Transfer.{end_on, after_ends}
 use Rattle.rk8e.specs.Laws.{has_transfer, IsUnderWay, IsSettled}
-use Rattle.rk8e.proofs.LawLemmas.{chosen, both, joined, far0, far1, far2, change_each, time_each, begun_all, put_control, end_cases, ends_each, still, over_some}
+use Rattle.rk8e.proofs.LawLemmas.{chosen, joined, far0, far1, far2, change_each, time_each, begun_all, put_control, end_cases, ends_each, still, over_some}
 
 -- ## A function begins
 
@@ -40,11 +40,11 @@ pub record Begins (c : ControlState) (f cylinder : ℕ) (e : ControlState × Dri
   pub within : cylinder ≤ 202
   pub other : nat_eq f 3 ≡ false
 
-no : (b : Bool) → b ≡ false → b ≡ true → ⊥
+pub no : (b : Bool) → b ≡ false → b ≡ true → ⊥
 no b f t = true≢false (sym t ∙ f)
 
-begins : (c : ControlState) (v : DriveState) (f cylinder : ℕ) → has_transfer v ≡ false → has_transfer (begun c v f cylinder).1 ≡ true
-    → Begins c f cylinder (begun c v f cylinder)
+begins : (c : ControlState) (v : DriveState) (f cylinder : ℕ) → has_transfer v ≡ false → has_transfer (begin_on c v f cylinder).1 ≡ true
+    → Begins c f cylinder (begin_on c v f cylinder)
 begins c v f cylinder rest =
     begun_all (λ e. has_transfer e.1 ≡ true → Begins c f cylinder e) c v f cylinder
     (λ _ h. absurd (no (has_transfer v) rest h)) (λ _ h. absurd (no (has_transfer v) rest h))
@@ -61,7 +61,7 @@ go_settled : (d : DiskState) (f cylinder : ℕ) → ((n : ℕ) → n < 4 → has
     → (nat_eq f 3 ≡ false → cylinder ≤ 202 → sector_of d.control < 6496) → IsSettled (go d f cylinder)
 go_settled d f cylinder quiet whole n hn h =
     let m = drive_number d.control in
-    let e = begun d.control (drive_of d m) f cylinder in
+    let e = begin_on d.control (drive_of d m) f cylinder in
     let small : m < 4 = omega arith in
     elim (put_at d e.0 m n e.1 small hn) [
       | inl same ↦ absurd (no (has_transfer (drive_of d n)) (quiet n hn) (sym (ap has_transfer same) ∙ h))
@@ -106,13 +106,13 @@ instruction_settled d pulses ac settled =
     else if nat_eq pulses 6 then dldc_row d ac
     else d)
     (λ _. chosen IsSettled (nat_eq (ac % 4) 0) (status_cleared d)
-    (if nat_eq (ac % 4) 1 then control_cleared d else if nat_eq (ac % 4) 2 then recalibrated d else with_no_status d)
+    (if nat_eq (ac % 4) 1 then control_cleared d else if nat_eq (ac % 4) 2 then after_recalibration d else with_no_status d)
     (λ _. chosen IsSettled d.control.busy (busy_error (with_no_status d)) (with_no_status d) (λ _. both_errors) (λ _. cleared))
     (λ _. chosen IsSettled (nat_eq (ac % 4) 1) (control_cleared d)
-    (if nat_eq (ac % 4) 2 then recalibrated d else with_no_status d)
+    (if nat_eq (ac % 4) 2 then after_recalibration d else with_no_status d)
     (λ _ n _ h. absurd (no (has_transfer (drive_of (control_cleared d) n))
     (change_each (λ v w. has_transfer w ≡ false) at_rest (λ v. refl) d (control_cleared d).control n) h))
-    (λ _. chosen IsSettled (nat_eq (ac % 4) 2) (recalibrated d) (with_no_status d)
+    (λ _. chosen IsSettled (nat_eq (ac % 4) 2) (after_recalibration d) (with_no_status d)
     (λ _. chosen IsSettled d.control.busy (busy_error (with_no_status d)) (go (with_no_status d) 3 0) (λ _. both_errors)
     (λ rest. go_settled (with_no_status d) 3 0 (idle rest) (λ seek _. absurd (true≢false seek))))
     (λ _. cleared))))
@@ -136,15 +136,15 @@ new_settled seek_time disk_time (suc zero) hn h = absurd (true≢false (sym h))
 new_settled seek_time disk_time (suc (suc zero)) hn h = absurd (true≢false (sym h))
 new_settled seek_time disk_time (suc (suc (suc n))) hn h = absurd (true≢false (sym (rw (far0 n, far1 n, far2 n) at h)))
 
-pub time_settled : (d : DiskState) (count : ℕ) → IsSettled d → IsSettled (passed d count)
+pub time_settled : (d : DiskState) (count : ℕ) → IsSettled d → IsSettled (disk_after d count)
 time_settled d count settled n hn h =
     settled n hn
-    (time_each (λ v w. has_transfer w ≡ true → has_transfer v ≡ true) (passed_by count) (λ v g. rw (still v.time_left count) at g) d n h)
+    (time_each (λ v w. has_transfer w ≡ true → has_transfer v ≡ true) (drive_after count) (λ v g. rw (still v.time_left count) at g) d n h)
 
-pub cleared_settled : (d : DiskState) → IsSettled (cleared d)
+pub cleared_settled : (d : DiskState) → IsSettled (after_clear d)
 cleared_settled d n hn h =
-    absurd (no (has_transfer (drive_of (cleared d) n))
-    (change_each (λ v w. has_transfer w ≡ false) cleared_drive (λ v. refl) d (cleared d).control n) h)
+    absurd (no (has_transfer (drive_of (after_clear d) n))
+    (change_each (λ v w. has_transfer w ≡ false) cleared_drive (λ v. refl) d (after_clear d).control n) h)
 
 -- ## Ends
 
@@ -157,7 +157,7 @@ keeps c m v core n under other =
     c (λ _. record { busy = under.busy; drive = under.drive; sector = under.sector }) (λ _. under))
     (λ over no_seek. absurd (other over no_seek))
 
-over_moves : (v : DriveState) → is_over v.time_left ≡ true → nat_eq v.function 3 ≡ false → has_transfer v ≡ true
+pub over_moves : (v : DriveState) → is_over v.time_left ≡ true → nat_eq v.function 3 ≡ false → has_transfer v ≡ true
 over_moves v over other = joined (is_some v.time_left) (not (nat_eq v.function 3)) (over_some v.time_left over) (rw other refl)
 
 pub ends_settled : (d : DiskState) (core : List ℕ) → IsSettled d → IsSettled (after_ends d core).disk

@@ -20,9 +20,9 @@ has_interrupt c = has c.command 0o400
 abbrev pub has_seek_done : ControlState → Bool
 has_seek_done c = has c.command 0o200
 
--- 0100: half a sector, 128 words
+-- 0100: half a sector
 abbrev pub words_moved : ControlState → ℕ
-words_moved c = if has c.command 0o100 then 128 else 256
+words_moved c = if has c.command 0o100 then 0o200 else 0o400
 
 -- 0070: the field of memory
 abbrev pub field_of : ControlState → ℕ

@@ -19,15 +19,15 @@ with_function drive function cylinder time = record drive {
 abbrev pub arm_time : ControlState → DriveState → ℕ → ℕ
 arm_time c drive cylinder = c.seek_time * distance drive.cylinder cylinder
 
--- A function is to begin on a drive, at a cylinder. The first of these holds that applies:
--- 1. the drive has no pack: done, and not ready;
--- 2. it is not at rest, or there is no such cylinder: the same;
--- 3. a locked drive is to be written: done, and a write lock error;
--- 4. write protect: the drive is locked, and done at once;
--- 5. seek: done at once too, and the arm moves, for ten instructions at least;
--- 6. else a transfer is under way.
-unfoldable pub begun : ControlState → DriveState → ℕ → ℕ → ControlState × DriveState
-begun c drive function cylinder =
+-- A function is to begin on a drive, at a cylinder. Of these rows the first holds that applies.
+-- 1. The drive has no pack: done, and not ready.
+-- 2. It is not at rest, or there is no such cylinder: the same.
+-- 3. A locked drive is to be written: done, and a write lock error.
+-- 4. Write protect: the drive is locked, and done at once.
+-- 5. Seek: done at once too, and the arm moves, for ten instructions at least.
+-- 6. All others: a transfer is under way.
+unfoldable pub begin_on : ControlState → DriveState → ℕ → ℕ → ControlState × DriveState
+begin_on c drive function cylinder =
     if is_none drive.pack then (with_status c 0o4002, drive)
     else if is_some drive.time_left || nat_lt 202 cylinder then (with_status c 0o4002, drive)
     else if is_write function && drive.locked then (with_status c 0o4020, drive)
@@ -40,5 +40,5 @@ begun c drive function cylinder =
 abbrev pub go : DiskState → ℕ → ℕ → DiskState
 go d function cylinder =
     let n = drive_number d.control in
-    let done = begun d.control (drive_of d n) function cylinder in
+    let done = begin_on d.control (drive_of d n) function cylinder in
     with_drive (with_control d done.0) n done.1

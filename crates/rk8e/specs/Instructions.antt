@@ -24,15 +24,15 @@ abbrev pub control_cleared : DiskState → DiskState
 control_cleared d = with_control (with_each at_rest d) (new_control d.control.seek_time d.control.disk_time)
 
 -- 2: the status becomes 0, and the command's drive seeks cylinder 0, if no transfer is under way
-abbrev pub recalibrated : DiskState → DiskState
-recalibrated d = if d.control.busy then busy_error (with_no_status d) else go (with_no_status d) 3 0
+abbrev pub after_recalibration : DiskState → DiskState
+after_recalibration d = if d.control.busy then busy_error (with_no_status d) else go (with_no_status d) 3 0
 
 -- 3: the status becomes 0
 abbrev pub dclr_row : DiskState → ℕ → DiskState
 dclr_row d ac =
     if nat_eq (ac % 4) 0 then status_cleared d
     else if nat_eq (ac % 4) 1 then control_cleared d
-    else if nat_eq (ac % 4) 2 then recalibrated d
+    else if nat_eq (ac % 4) 2 then after_recalibration d
     else with_no_status d
 
 -- ## DLAG (6743), DLCA (6744) and DLDC (6746), which load a register from AC if no transfer is under way

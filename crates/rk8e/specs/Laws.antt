@@ -30,7 +30,7 @@ IsGuarded drive = drive.locked ≡ true → (is_some drive.time_left && is_write
 abbrev pub AreGuarded : DiskState → Type 0
 AreGuarded d = (n : ℕ) → IsGuarded (drive_of d n)
 
--- The command's drive refuses a function at a cylinder: it has no pack, it is not at rest or has no such cylinder, or it is locked
+-- The command's drive refuses a function at a cylinder. It has no pack, it is not at rest, it has no such cylinder, or it is locked
 -- and the function writes.
 abbrev pub refuses : DiskState → ℕ → ℕ → Bool
 refuses d function cylinder =

@@ -91,8 +91,8 @@ with_each change d = record d {
 -- ## What the operator does
 
 -- a drive is write locked
-abbrev pub locked : DriveState → DriveState
-locked drive = record drive { locked = true }
+abbrev pub with_lock : DriveState → DriveState
+with_lock drive = record drive { locked = true }
 
 -- a drive has this pack, or none
 abbrev pub with_pack : DriveState → Option PackState → DriveState
@@ -107,5 +107,5 @@ at_rest drive = record drive { time_left = None }
 abbrev pub cleared_drive : DriveState → DriveState
 cleared_drive drive = record drive { cylinder = 0; time_left = None }
 
-abbrev pub cleared : DiskState → DiskState
-cleared d = with_control (with_each cleared_drive d) (new_control d.control.seek_time d.control.disk_time)
+abbrev pub after_clear : DiskState → DiskState
+after_clear d = with_control (with_each cleared_drive d) (new_control d.control.seek_time d.control.disk_time)

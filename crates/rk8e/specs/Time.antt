@@ -7,12 +7,12 @@ abbrev pub time_after : Option ℕ → ℕ → Option ℕ
 time_after None count = None
 time_after (Some time) count = Some (time - count)
 
-abbrev pub passed_by : ℕ → DriveState → DriveState
-passed_by count drive = record drive { time_left = time_after drive.time_left count }
+abbrev pub drive_after : ℕ → DriveState → DriveState
+drive_after count drive = record drive { time_left = time_after drive.time_left count }
 
 -- Of the instructions that pass, the last is yet to be done: what it begins is not made less by it.
-abbrev pub passed : DiskState → ℕ → DiskState
-passed d count = with_each (passed_by count) d
+abbrev pub disk_after : DiskState → ℕ → DiskState
+disk_after d count = with_each (drive_after count) d
 
 -- of two times the less, where there are both
 abbrev pub sooner : Option ℕ → Option ℕ → Option ℕ

@@ -73,8 +73,8 @@ pack_after c function None core = None
 pack_after c function (Some pack) core = if is_write function then Some (pack_written c pack core) else Some pack
 
 -- what it moved, if it moves words: sector, first cell, how many
-abbrev pub moved_by : ControlState → ℕ → Option Moved
-moved_by c function =
+abbrev pub transfer_of : ControlState → ℕ → Option Moved
+transfer_of c function =
     if is_read function || is_write function then
     Some (record {
       drive = drive_number c;
@@ -97,40 +97,40 @@ abbrev pub seek_done : ControlState → ℕ → ControlState
 seek_done c n = if nat_eq (drive_number c) n && has_seek_done c then with_status c 0o4000 else c
 
 -- what an end leaves
-pub record Ended : Type 0 where
+pub record DriveEnd : Type 0 where
   pub control : ControlState
   pub drive : DriveState
   pub core : List ℕ
   pub moved : Option Moved
 
-abbrev pub no_end : ControlState → DriveState → List ℕ → Ended
+abbrev pub no_end : ControlState → DriveState → List ℕ → DriveEnd
 no_end c drive core = record { control = c; drive = drive; core = core; moved = None }
 
-abbrev pub seek_end : ControlState → ℕ → DriveState → List ℕ → Ended
+abbrev pub seek_end : ControlState → ℕ → DriveState → List ℕ → DriveEnd
 seek_end c n drive core = record { control = seek_done c n; drive = at_rest drive; core = core; moved = None }
 
-abbrev pub transfer_end : ControlState → DriveState → List ℕ → Ended
+abbrev pub transfer_end : ControlState → DriveState → List ℕ → DriveEnd
 transfer_end c drive core = record {
   control = transfer_done c;
   drive = with_pack (at_rest drive) (pack_after c drive.function drive.pack core);
   core = core_after c drive.function drive.pack core;
-  moved = moved_by c drive.function;
+  moved = transfer_of c drive.function;
 }
 
 -- the end of the function of drive n, if no time is left of it
-unfoldable pub end_on : ControlState → ℕ → DriveState → List ℕ → Ended
+unfoldable pub end_on : ControlState → ℕ → DriveState → List ℕ → DriveEnd
 end_on c n drive core =
     if is_over drive.time_left then
     (if nat_eq drive.function 3 then seek_end c n drive core else transfer_end c drive core)
     else no_end c drive core
 
 -- what an end leaves of the whole disk
-pub record DiskEnded : Type 0 where
+pub record DiskEnd : Type 0 where
   pub disk : DiskState
   pub core : List ℕ
   pub moved : Option Moved
 
-abbrev pub after_end : DiskState → ℕ → List ℕ → DiskEnded
+abbrev pub after_end : DiskState → ℕ → List ℕ → DiskEnd
 after_end d n core =
     let ended = end_on d.control n (drive_of d n) core in
     record { disk = with_drive (with_control d ended.control) n ended.drive; core = ended.core; moved = ended.moved }
@@ -141,7 +141,7 @@ first_of None b = b
 first_of (Some a) b = Some a
 
 -- All that has no time left ends, the drives in rising order.
-abbrev pub after_ends : DiskState → List ℕ → DiskEnded
+abbrev pub after_ends : DiskState → List ℕ → DiskEnd
 after_ends d core =
     let a = after_end d 0 core in
     let b = after_end a.disk 1 a.core in

@@ -5,14 +5,14 @@ ghost use Rattle.word12.specs.declared.sizes.TheConstants.{CORE};
 ghost use Rattle.rk8e.specs.State.{new_control};
 ghost use Rattle.rk8e.specs.Command as spec;
 ghost use Rattle.rk8e.specs.Command.{function_of, has, has_interrupt, words_moved, drive_number, sector_of, cylinder_of, is_flagged, with_status};
-ghost use Rattle.rk8e.specs.Transfer.{cell_of, moved_by, transfer_done, seek_done};
+ghost use Rattle.rk8e.specs.Transfer.{cell_of, transfer_of, transfer_done, seek_done};
 
 use crate::Moved;
 use std::marker::Model;
 use word12::{Cell, Word};
 
 /// Status: a transfer ended, a function was refused, a lock was set, or a seek was begun.
-pub(crate) const DONE: u16 = 0o4000;
+pub(crate) const IS_DONE: u16 = 0o4000;
 
 /// Status: an instruction came while a transfer was under way.
 pub(crate) const BUSY_ERROR: u16 = 0o100;
@@ -125,7 +125,11 @@ impl Control {
         ensures value { result ≡ words_moved self.now }
         ensures range { result ≤ 256 }
     {
-        if has(self.command, HALF) { 128 } else { 256 }
+        if has(self.command, HALF) {
+            0o200
+        } else {
+            0o400
+        }
     }
 
     /// The command's drive, 0 to 3.
@@ -136,10 +140,10 @@ impl Control {
         (self.command.get() / 2 % 4) as u8
     }
 
-    /// The sector, 0 to 8191.
+    /// The sector, 0 to 0o17777.
     pub(crate) fn sector(&self) -> usize
         ensures value { result ≡ sector_of self.now }
-        ensures range { result < 8192 }
+        ensures range { result < 0o20000 }
     {
         0o10000 * usize::from(self.command.get() % 2) + usize::from(self.disk_address.get())
     }
@@ -175,7 +179,7 @@ impl Control {
     pub(crate) fn is_flagged(&self) -> bool
         ensures { result ≡ is_flagged self.now }
     {
-        has(self.status, DONE)
+        has(self.status, IS_DONE)
             || has(self.status, BUSY_ERROR)
             || has(self.status, LOCK_ERROR)
             || has(self.status, NOT_READY)
@@ -194,7 +198,7 @@ impl Control {
         ensures { self.new ≡ seek_done self.old number }
     {
         if self.drive_number() == number && has(self.command, SEEK_DONE) {
-            self.set_status(DONE);
+            self.set_status(IS_DONE);
         }
     }
 
@@ -202,14 +206,14 @@ impl Control {
     pub(crate) fn end_transfer(&mut self)
         ensures { self.new ≡ transfer_done self.old }
     {
-        self.set_status(DONE);
+        self.set_status(IS_DONE);
         self.memory_address = self.memory_address.plus(Word::low(self.words_moved()));
         self.is_busy = false;
     }
 
     /// What a transfer of this function moves.
-    pub(crate) fn moved(&self, function: u8) -> Option<Moved>
-        ensures { result ≡ moved_by self.now function }
+    pub(crate) fn transfer(&self, function: u8) -> Option<Moved>
+        ensures { result ≡ transfer_of self.now function }
     {
         let is_write = is_write(function);
         if function <= 1 || is_write {

@@ -1,8 +1,8 @@
 ghost use Rattle.std.specs.Prelude.{◌≡◌, ◌≤◌};
-ghost use Rattle.rk8e.specs.State.{new_disk, cleared};
+ghost use Rattle.rk8e.specs.State.{new_disk, after_clear};
 ghost use Rattle.rk8e.specs.Command.{is_requesting};
 ghost use Rattle.rk8e.specs.Time as times;
-ghost use Rattle.rk8e.specs.Time.{passed, least_time};
+ghost use Rattle.rk8e.specs.Time.{disk_after, least_time};
 ghost use Rattle.rk8e.specs.Transfer as spec;
 ghost use Rattle.rk8e.specs.Transfer.{after_ends};
 
@@ -61,7 +61,7 @@ impl Disk {
     /// Clears the disk, as CAF and a start do. The registers become 0, and no function is under way any more: a transfer then moves
     /// no word. The arms go to cylinder 0. Packs and locks stay (RK8-E, Small Computer Handbook).
     pub fn clear(&mut self)
-        ensures { self.new ≡ cleared self.old }
+        ensures { self.new ≡ after_clear self.old }
     {
         self.control.clear();
         self.drive0.clear();
@@ -90,7 +90,7 @@ impl Disk {
     /// So many instructions pass for what is under way. The last of them is yet to be done: what it begins is not made less by it
     /// (this project's profile).
     pub fn pass(&mut self, count: u32)
-        ensures { self.new ≡ passed self.old count }
+        ensures { self.new ≡ disk_after self.old count }
     {
         self.drive0.pass(count);
         self.drive1.pass(count);

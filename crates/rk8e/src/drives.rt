@@ -1,12 +1,12 @@
 //! A drive, and how its functions begin and end.
 
 ghost use Rattle.std.specs.Prelude.{◌≡◌, ◌≤◌};
-ghost use Rattle.rk8e.specs.State.{new_drive, locked, at_rest, cleared_drive};
-ghost use Rattle.rk8e.specs.Go.{arm_time, begun, distance, with_function};
-ghost use Rattle.rk8e.specs.Time.{passed_by, is_over};
+ghost use Rattle.rk8e.specs.State.{new_drive, with_lock, at_rest, cleared_drive};
+ghost use Rattle.rk8e.specs.Go.{arm_time, begin_on, distance, with_function};
+ghost use Rattle.rk8e.specs.Time.{drive_after, is_over};
 ghost use Rattle.rk8e.specs.Transfer.{core_after, end_on, pack_after};
 
-use crate::controls::{Control, DONE, LOCK_ERROR, NOT_READY, is_write};
+use crate::controls::{Control, IS_DONE, LOCK_ERROR, NOT_READY, is_write};
 use crate::{Moved, Pack};
 use core_load::Core;
 use std::marker::Model;
@@ -57,7 +57,7 @@ impl Drive {
 
     /// The drive is locked.
     pub(crate) fn lock(&mut self)
-        ensures { self.new ≡ locked self.old }
+        ensures { self.new ≡ with_lock self.old }
     {
         self.is_locked = true;
     }
@@ -79,7 +79,7 @@ impl Drive {
 
     /// So many instructions pass.
     pub(crate) fn pass(&mut self, count: u32)
-        ensures { self.new ≡ passed_by count self.old }
+        ensures { self.new ≡ drive_after count self.old }
     {
         if let Some(time) = self.time_left {
             self.time_left = Some(time.saturating_sub(count));
@@ -123,28 +123,28 @@ fn arm_time(control: &Control, drive: &Drive, cylinder: u8) -> u32
 }
 
 /// A function begins on the drive, or is refused.
-#[tactic(auto, unfolding(crate::specs::Go::begun))]
+#[tactic(auto, unfolding(crate::specs::Go::begin_on))]
 pub(crate) fn begin(control: &mut Control, drive: &mut Drive, function: u8, cylinder: u8)
-    ensures control { control.new ≡ (begun control.old drive.old function cylinder).0 }
-    ensures drive { drive.new ≡ (begun control.old drive.old function cylinder).1 }
+    ensures control { control.new ≡ (begin_on control.old drive.old function cylinder).0 }
+    ensures drive { drive.new ≡ (begin_on control.old drive.old function cylinder).1 }
 {
     if drive.pack.is_none() || drive.time_left.is_some() || cylinder > LAST_CYLINDER {
-        control.set_status(DONE + NOT_READY);
+        control.set_status(IS_DONE + NOT_READY);
         return;
     }
     if is_write(function) && drive.is_locked {
-        control.set_status(DONE + LOCK_ERROR);
+        control.set_status(IS_DONE + LOCK_ERROR);
         return;
     }
     if function == 2 {
         drive.lock();
-        control.set_status(DONE);
+        control.set_status(IS_DONE);
         return;
     }
     let time = arm_time(control, drive, cylinder);
     if function == 3 {
         drive.begin(function, cylinder, time.max(LEAST_SEEK));
-        control.set_status(DONE);
+        control.set_status(IS_DONE);
         return;
     }
     drive.begin(function, cylinder, time + control.disk_time);
@@ -172,7 +172,7 @@ pub(crate) fn end_on(
         control.end_seek(number);
         return None;
     }
-    let moved = control.moved(drive.function);
+    let moved = control.transfer(drive.function);
     move_words(control, drive.function, &mut drive.pack, core);
     control.end_transfer();
     moved

@@ -3,11 +3,11 @@
 ghost use Rattle.std.specs.Prelude.{◌≡◌, ◌≢◌, ℕ, ◌-◌, ◌%◌, ◌<◌, zero, suc, Bool, true, false, ◌&&◌, nat_eq, List, length, slice_index, Option, Some, None, Ok};
 ghost use Rattle.rk8e.specs.declared.sizes.TheConstants.{PACK, SECTOR, SECTORS};
 ghost use Rattle.rk8e.specs.Packs.{PackState, sector_word, file_word, IsFileOf, ReadsPack};
-ghost use Rattle.rk8e.specs.State.{DiskState, new_disk, drive_of, cleared};
+ghost use Rattle.rk8e.specs.State.{DiskState, new_disk, drive_of, after_clear};
 ghost use Rattle.rk8e.specs.Command.{sector_of, words_moved, is_requesting};
 ghost use Rattle.rk8e.specs.Go.{go};
 ghost use Rattle.rk8e.specs.Instructions.{instruction_row};
-ghost use Rattle.rk8e.specs.Time.{passed};
+ghost use Rattle.rk8e.specs.Time.{disk_after};
 ghost use Rattle.rk8e.specs.Transfer.{after_end, after_ends, cell_of, is_reached, word_written};
 ghost use Rattle.rk8e.specs.Laws.{map_word, ends_write, ends_read, AreGuarded, IsSettled, refuses};
 
@@ -16,8 +16,8 @@ ghost use Rattle.rk8e.specs.Laws.{map_word, ends_write, ends_read, AreGuarded, I
 pub fn sector_kept()
     ensures instructions { (d : DiskState) (pulses ac n : ℕ) → (drive_of (instruction_row d pulses ac) n).pack
         ≡ (drive_of d n).pack }
-    ensures time { (d : DiskState) (count n : ℕ) → (drive_of (passed d count) n).pack ≡ (drive_of d n).pack }
-    ensures clearing { (d : DiskState) (n : ℕ) → (drive_of (cleared d) n).pack ≡ (drive_of d n).pack }
+    ensures time { (d : DiskState) (count n : ℕ) → (drive_of (disk_after d count) n).pack ≡ (drive_of d n).pack }
+    ensures clearing { (d : DiskState) (n : ℕ) → (drive_of (after_clear d) n).pack ≡ (drive_of d n).pack }
     ensures ends { (d : DiskState) (core : List ℕ) (n sector k : ℕ) → k < SECTOR
         → (ends_write (drive_of d n) ≡ true → sector ≢ sector_of d.control)
         → map_word (after_ends d core).disk n sector k ≡ map_word d n sector k }
@@ -45,19 +45,19 @@ pub fn cells_read()
 
 /// No lock ends, and no word of a locked drive changes. For on a locked drive no write is under way: not on a new disk, and
 /// instructions, time, clearing and ends keep it so.
-pub fn locked_is_kept()
+pub fn locked_drive_is_kept()
     ensures locks { (d : DiskState) (pulses ac n : ℕ) → (drive_of d n).locked ≡ true
         → (drive_of (instruction_row d pulses ac) n).locked ≡ true }
-    ensures locks_in_time { (d : DiskState) (count n : ℕ) → (drive_of (passed d count) n).locked ≡ (drive_of d n).locked }
-    ensures locks_cleared { (d : DiskState) (n : ℕ) → (drive_of (cleared d) n).locked ≡ (drive_of d n).locked }
+    ensures locks_in_time { (d : DiskState) (count n : ℕ) → (drive_of (disk_after d count) n).locked ≡ (drive_of d n).locked }
+    ensures locks_cleared { (d : DiskState) (n : ℕ) → (drive_of (after_clear d) n).locked ≡ (drive_of d n).locked }
     ensures locks_at_ends { (d : DiskState) (core : List ℕ) (n : ℕ) → (drive_of (after_ends d core).disk n).locked
         ≡ (drive_of d n).locked }
     ensures words { (d : DiskState) (core : List ℕ) (n sector k : ℕ) → AreGuarded d → (drive_of d n).locked ≡ true → k < SECTOR
         → map_word (after_ends d core).disk n sector k ≡ map_word d n sector k }
     ensures new { (seek_time disk_time : ℕ) → AreGuarded (new_disk seek_time disk_time) }
     ensures instructions { (d : DiskState) (pulses ac : ℕ) → AreGuarded d → AreGuarded (instruction_row d pulses ac) }
-    ensures time { (d : DiskState) (count : ℕ) → AreGuarded d → AreGuarded (passed d count) }
-    ensures clearing { (d : DiskState) → AreGuarded (cleared d) }
+    ensures time { (d : DiskState) (count : ℕ) → AreGuarded d → AreGuarded (disk_after d count) }
+    ensures clearing { (d : DiskState) → AreGuarded (after_clear d) }
     ensures ends { (d : DiskState) (core : List ℕ) → AreGuarded d → AreGuarded (after_ends d core).disk }
 {}
 
@@ -66,9 +66,24 @@ pub fn locked_is_kept()
 pub fn one_transfer()
     ensures new { (seek_time disk_time : ℕ) → IsSettled (new_disk seek_time disk_time) }
     ensures instructions { (d : DiskState) (pulses ac : ℕ) → IsSettled d → IsSettled (instruction_row d pulses ac) }
-    ensures time { (d : DiskState) (count : ℕ) → IsSettled d → IsSettled (passed d count) }
-    ensures clearing { (d : DiskState) → IsSettled (cleared d) }
+    ensures time { (d : DiskState) (count : ℕ) → IsSettled d → IsSettled (disk_after d count) }
+    ensures clearing { (d : DiskState) → IsSettled (after_clear d) }
     ensures ends { (d : DiskState) (core : List ℕ) → IsSettled d → IsSettled (after_ends d core).disk }
+{}
+
+/// What a step's beginning does where a transfer ends then, whichever drives end beside it. A sector that is written has the words of
+/// the cells as they were. The cells that are read have the words of the sector, and all others are as before.
+pub fn transfer_in_step()
+    ensures written { (d : DiskState) (core : List ℕ) (n k : ℕ) (pack : PackState) → IsSettled d → n < 4
+        → ends_write (drive_of d n) ≡ true → (drive_of d n).pack ≡ Some pack → length pack.words ≡ PACK → k < SECTOR
+        → map_word (after_ends d core).disk n (sector_of d.control) k ≡ word_written d.control core k }
+    ensures read { (d : DiskState) (core : List ℕ) (n k : ℕ) (pack : PackState) → IsSettled d → n < 4
+        → ends_read (drive_of d n) ≡ true → (drive_of d n).pack ≡ Some pack → d.control.memory_address < 0o10000
+        → cell_of d.control k < length core → k < words_moved d.control
+        → slice_index (after_ends d core).core (cell_of d.control k) ≡ sector_word pack.words (sector_of d.control) k }
+    ensures others { (d : DiskState) (core : List ℕ) (cell : ℕ) → IsSettled d → cell < length core
+        → is_reached d.control (words_moved d.control) cell ≡ false
+        → slice_index (after_ends d core).core cell ≡ slice_index core cell }
 {}
 
 /// A function that is refused changes no drive, and no transfer is under way by it: so it moves no word.
@@ -83,7 +98,7 @@ pub fn refused_moves_nothing()
 /// left of 0 ends, and a drive with another stays as it is.
 pub fn time_is_counted()
     ensures passes { (d : DiskState) (count n time : ℕ) → (drive_of d n).time_left ≡ Some time
-        → (drive_of (passed d count) n).time_left ≡ Some (time - count) }
+        → (drive_of (disk_after d count) n).time_left ≡ Some (time - count) }
     ensures instructions { (d : DiskState) (pulses ac n time : ℕ) → (drive_of d n).time_left ≡ Some time
         → (nat_eq pulses 2 && nat_eq (ac % 4) 1) ≡ false
         → (drive_of (instruction_row d pulses ac) n).time_left ≡ Some time }

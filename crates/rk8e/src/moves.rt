@@ -9,7 +9,7 @@ pub struct Moved {
     pub sector: u16,
     /// The cell of the first word.
     pub cell: Cell,
-    /// How many words, 128 or 256.
+    /// How many words: a sector's, or half as many.
     pub words: u16,
     /// Whether the sector has the cells' words now, and not the other way round.
     pub is_write: bool,

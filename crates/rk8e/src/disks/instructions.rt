@@ -4,7 +4,7 @@ ghost use Rattle.std.specs.Prelude.{◌≡◌, ◌<◌, is_some, is_none};
 ghost use Rattle.rk8e.specs.State.{drive_of};
 ghost use Rattle.rk8e.specs.Command.{drive_number};
 ghost use Rattle.rk8e.specs.Go.{go};
-ghost use Rattle.rk8e.specs.Instructions.{instruction_row, instruction_skips, instruction_ac, dclr_row, dlag_row, dlca_row, dldc_row, status_word, status_cleared, control_cleared, recalibrated};
+ghost use Rattle.rk8e.specs.Instructions.{instruction_row, instruction_skips, instruction_ac, dclr_row, dlag_row, dlca_row, dldc_row, status_word, status_cleared, control_cleared, after_recalibration};
 
 use super::Disk;
 use crate::controls::{ABSENT, BUSY_ERROR, MOVING};
@@ -127,7 +127,7 @@ impl Disk {
 
     /// The command's drive seeks cylinder 0.
     fn recalibrate(&mut self)
-        ensures { self.new ≡ recalibrated self.old }
+        ensures { self.new ≡ after_recalibration self.old }
     {
         self.clear_status();
         if !self.control.is_busy {

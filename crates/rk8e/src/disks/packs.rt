@@ -2,7 +2,7 @@
 
 ghost use Rattle.std.specs.Prelude.{◌≡◌, None, Some};
 ghost use Rattle.rk8e.specs.Packs.{is_changed_in};
-ghost use Rattle.rk8e.specs.State.{drive_of, with_drive, locked, with_pack};
+ghost use Rattle.rk8e.specs.State.{drive_of, with_drive, with_lock, with_pack};
 
 use super::Disk;
 use crate::Pack;
@@ -10,7 +10,7 @@ use crate::Pack;
 impl Disk {
     /// Locks a drive, 0 to 3: no sector of it may be written.
     pub fn lock(&mut self, drive: u8)
-        ensures { self.new ≡ with_drive self.old drive (locked (drive_of self.old drive)) }
+        ensures { self.new ≡ with_drive self.old drive (with_lock (drive_of self.old drive)) }
     {
         match drive {
             0 => self.drive0.lock(),

@@ -1,5 +1,5 @@
 use Rattle.rk8e.proofs.LawLemmas.{locks_stay, locks_pass, locks_clear, locks_end, locked_words, new_guarded, instruction_guarded, time_guarded, cleared_guarded, ends_guarded}
-use Rattle.rk8e.proofs.laws.locked_is_kept.Goals as goal
+use Rattle.rk8e.proofs.laws.locked_drive_is_kept.Goals as goal
 
 pub returns-clause-locks : goal.returns-clause-locks
 returns-clause-locks c = locks_stay
