@@ -122,7 +122,7 @@ async function memory(page) {
 
 // The times of keys and clicks say something on an idle machine alone: with IDLE=1.
 const IDLE_ALONE = ['a key, a step, a click on a file and a change of panes have their picture in 50 ms, beside a busy worker too',
-    'an RK05 opens within 300 ms, and what takes 100 shows that it works'];
+    'an RK05 opens within 300 ms'];
 
 /** @type {Record<string, any>} */
 const tests = {
@@ -169,17 +169,21 @@ const tests = {
         await page.click('#tty-stop');
         same('', [alone, busy].filter(it => it).join('; '), 'what takes longer');
     },
-    'an RK05 opens within 300 ms, and what takes 100 shows that it works': async (page, url) => {
+    'an RK05 opens within 300 ms': async (page, url) => {
         native(['create', 'ONE', '3248']);
         for (let k = 0; k < 40; k++) native(['put', 'ONE', '-', '--as', `F${k}.DA`], randomBytes(9000));
         for (let k = 0; k < 9; k++) writeFileSync(file(`RK${k}`), Buffer.concat([readFileSync(file('ONE')), readFileSync(file('ONE'))]));
         await page.go(url);
         same('', await answers(page, 'an RK05', 300, k => `document.getElementById('volume').value === 'RK${k} 1' && document.querySelectorAll('#directory tbody tr').length === 40`,
             k => page.give('#image', file(`RK${k}`))), 'how long it takes');
-        const seen = () => page.look(`getComputedStyle(document.getElementById('work')).opacity`), script = `DEPOSIT 00200 5200\\nSTART 00200\\n${'GO 1000000\\n'.repeat(300)}`;
+    },
+    'long work shows that it goes on': async (page, url) => {
+        await page.go(url);
+        await page.look(`geivottu.programs.ask(['create', 'V', '20'])`);
+        const seen = () => page.look(`getComputedStyle(document.getElementById('work')).opacity`), script = `DEPOSIT 00200 5200\\nSTART 00200\\n${'GO 1000000\\n'.repeat(100)}`;
         same('0', await seen(), 'the sign at rest');
-        await page.look(`void geivottu.programs.ask(['run', 'RK0', '--volume', '1', '--look'], '${script}')`);
-        await page.until(`getComputedStyle(document.getElementById('work')).opacity === '1'`, 1000);
+        await page.look(`void geivottu.programs.ask(['run', 'V', '--look'], '${script}')`);
+        await page.until(`getComputedStyle(document.getElementById('work')).opacity === '1'`);
         await page.until(`!geivottu.programs.isAsked && getComputedStyle(document.getElementById('work')).opacity === '0'`);
     },
     'a script makes half of the native steps a second': async (page, url) => {
