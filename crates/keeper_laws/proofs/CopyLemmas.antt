@@ -71,7 +71,7 @@ judged-still : (reading : ImageReading) (name : List ℕ) (file : Vec ℕ) (old 
 judged-still reading name file old it new (inl ends) = absurd ends
 judged-still reading name file old it new (inr two) = two.after.1 ∙ judged name (two_readings reading.layout reading.is_plain file.items) old two.given two.between two.done
 
-seen-image : (reading : ImageReading) (name : List ℕ) (old : List Event) (file : Vec ℕ) (new : List Event) → LooksImage reading name old (Ok file) new → IsSeen name old new
+pub seen-image : (reading : ImageReading) (name : List ℕ) (old : List Event) (file : Vec ℕ) (new : List Event) → LooksImage reading name old (Ok file) new → IsSeen name old new
 seen-image reading name old file new (inl ends) = absurd ends
 seen-image reading name old file new (inr two) =
     seen-then name old two.between new (seen-if reading.is_lenient reading.layout reading.is_plain name old two.given two.between two.done)
@@ -100,7 +100,7 @@ looks-if-refuses false given is_plain name = looks-refuses name name
 is-judged : (file : Vec ℕ) → OnlyRefuses (Purely (IsJudged file))
 is-judged file old ending new p = absurd p.0
 
-image-refuses : (reading : ImageReading) (name : List ℕ) → OnlyRefuses (LooksImage reading name)
+pub image-refuses : (reading : ImageReading) (name : List ℕ) → OnlyRefuses (LooksImage reading name)
 image-refuses reading name = then-refuses (LooksIf reading.is_lenient reading.layout reading.is_plain name) (λ file. JudgesLooked reading name file)
     (looks-if-refuses reading.is_lenient reading.layout reading.is_plain name) (λ old file new p. (seen-if reading.is_lenient reading.layout reading.is_plain name old file new p).quiet.prints)
     (λ file. then-refuses (Judges name reading.layout reading.is_plain file.items) (λ it. Purely (IsJudged file))

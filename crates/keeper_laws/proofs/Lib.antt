@@ -3,9 +3,11 @@ pub mod BackLemmas
 mod ChoiceLemmas
 mod ChangeLemmas
 mod CopyAllLemmas
-mod CopyLemmas
 mod GotBackLemmas
+pub mod CopyLemmas
+mod HeldLemmas
 pub mod MakeLemmas
+mod ManyBackLemmas
 pub mod OpenLemmas
 mod PatchLemmas
 pub mod PrepareLemmas
@@ -17,3 +19,4 @@ mod RescueLemmas
 mod SoundLemmas
 pub mod StoreLemmas
 mod TextLemmas
+mod TouchLemmas

@@ -80,17 +80,17 @@ pub judged : (name : List ℕ) (two : Option (ImageKind × ImageKind)) (old : Li
 judged name None old it new p = p
 judged name (Some two) old it new p = absurd p
 
-record IsMade (place : ImagePlace) (volumes : Volumes) (margins : Margins) (file : List ℕ) (old : List Event) (image : Image) (new : List Event) : Type 0 where
-  place_is : image.place ≡ place
-  volume : IsVolumeBy volumes margins file image
-  stays : new ≡ old
+pub record IsMade (place : ImagePlace) (volumes : Volumes) (margins : Margins) (file : List ℕ) (old : List Event) (image : Image) (new : List Event) : Type 0 where
+  pub place_is : image.place ≡ place
+  pub volume : IsVolumeBy volumes margins file image
+  pub stays : new ≡ old
 
 made-of : (place : ImagePlace) (judgment : Judgment) (volumes : Volumes) (margins : Margins) (file : List ℕ) (old : List Event) (image : Image) (new : List Event)
     → MakesOne place judgment volumes margins file old (Ok image) new → IsMade place volumes margins file old image new
 made-of place judgment (One layout) margins file old image new ((is, taken, volume, parts), p) = record { place_is = is; volume = (volume, parts); stays = p }
 made-of place judgment Both margins file old image new p = absurd p
 
-judged-made : (place : ImagePlace) (form : ImageForm) (file : List ℕ) (old : List Event) (image : Image) (new : List Event) → JudgesOpened place form file old (Ok image) new
+pub judged-made : (place : ImagePlace) (form : ImageForm) (file : List ℕ) (old : List Event) (image : Image) (new : List Event) → JudgesOpened place form file old (Ok image) new
     → IsMade place (volumes_in form.layout form.is_plain file) (margins_in form.layout form.is_plain file) file old image new
 judged-made place form file old image new (inl ends) = absurd ends
 judged-made place form file old image new (inr it) =

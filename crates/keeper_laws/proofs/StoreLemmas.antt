@@ -25,7 +25,7 @@ use Rattle.image_files.specs.declared.images.Image.{Image}
 use Rattle.image_files.specs.declared.reading.ImagePlace.{ImagePlace}
 use Rattle.image_files.proofs.ReasonLemmas.{reason-keeps, unless-output}
 use Rattle.keeper_laws.specs.Changed.{Becomes, GetsVolume, warnings}
-use Rattle.keeper_laws.specs.Ended.{AllStay, DoesNothing, EndsAs, MayHoldAPart}
+use Rattle.keeper_laws.specs.Ended.{AllStay, DoesNothing, EndsAs, MayHoldAPart, TouchesAlone, TouchesItAlone}
 use Rattle.keeper_laws.proofs.OpenLemmas.{FindsSaved, FindsUnsaved, HasOpened, IsQuiet, quiet-then}
 
 -- ## A file that is saved
@@ -159,12 +159,23 @@ record IsPart (image : Image) (old new : List Event) : Type 0 where
   prints : output new ≡ output old
   reads : read new ≡ read old
 
+-- the held file of an image, and the one beside it, may be touched, and no other
+record IsAlone (image : Image) (old new : List Event) : Type 0 where
+  is_held : image.place.is_held ≡ true
+  alone : TouchesAlone image.place.path.bytes.items old new
+
+-- each file is as it was
+record StaysAll (image : Image) (old new : List Event) : Type 0 where
+  files : (path : List ℕ) → StaysAsItWas (about path old) (about path new)
+  touches : ChangesNothing old new ⊎ IsAlone image old new
+  prints : output new ≡ output old
+
 -- what each ending of it means
 abbrev EndsStore : Image → List ℕ → List ℕ → List ℕ → Result (Unit {0}) Ending → List Event → List Event → Type 0
 EndsStore image was bytes line (Ok it) old new = IsStored image was bytes line true old new
 EndsStore image was bytes line (Err Unreported) old new = IsStored image was bytes line false old new
 EndsStore image was bytes line (Err NoReader) old new = IsStored image was bytes line false old new
-EndsStore image was bytes line (Err (NotWritten it AsItWas)) old new = AllStay old new
+EndsStore image was bytes line (Err (NotWritten it AsItWas)) old new = StaysAll image old new
 EndsStore image was bytes line (Err (NotWritten it InPart)) old new = IsPart image old new
 EndsStore image was bytes line (Err (Line it)) old new = DoesNothing old new
 EndsStore image was bytes line (Err (Fault it)) old new = ⊥
@@ -177,22 +188,34 @@ unchanged : (old new : List Step) → new ≡ old → StaysAsItWas old new
 unchanged old new is start = subst (λ (n : List Step). IsAsItWas (replay start old) (replay start n)) (sym is) (record { seen = refl; on_disk = refl; earlier = refl })
 
 -- a note after it leaves each file
-told-stay : (why : Reason) (name : List ℕ) (old mid new : List Event) → TellsReason why name mid new → AllStay old mid → AllStay old new
-told-stay why name old mid new told stay = record {
+told-stay : (image : Image) (why : Reason) (name : List ℕ) (old mid new : List Event) → TellsReason why name mid new → StaysAll image old mid → StaysAll image old new
+told-stay image why name old mid new told stay = record {
   files = λ path. subst (λ (s : List Step). StaysAsItWas (about path old) s) (sym (reason-keeps why name mid new told path)) (stay.files path);
+  touches = go stay.touches;
   prints = unless-output false why name mid new told ∙ stay.prints;
-}
+} where
+  go : ChangesNothing old mid ⊎ IsAlone image old mid → ChangesNothing old new ⊎ IsAlone image old new
+  go (inl none) = inl (λ path. reason-keeps why name mid new told path ∙ none path)
+  go (inr it) = inr (record { is_held = it.is_held; alone = λ other apart. reason-keeps why name mid new told other ∙ it.alone other apart })
 
 -- where the file of one path is as it was, and no other was changed
-all-stay : (path : List ℕ) (old new : List Event) → StaysAsItWas (about path old) (about path new) → TouchesOnly path old new → AllStay old new
-all-stay path old new stays only = record { files = λ other. go other (bytes_eq path other) refl; prints = only.prints }
+all-stay : (image : Image) (old new : List Event) → image.place.is_held ≡ true → StaysAsItWas (about image.place.path.bytes.items old) (about image.place.path.bytes.items new)
+    → TouchesOnly image.place.path.bytes.items old new → StaysAll image old new
+all-stay image old new is_held stays only = record {
+  files = λ other. go other (bytes_eq path other) refl;
+  touches = inr (record { is_held = is_held; alone = only.others });
+  prints = only.prints;
+}
   where
+    path : List ℕ
+    path = image.place.path.bytes.items
+
     go : (other : List ℕ) (is : Bool) → bytes_eq path other ≡ is → StaysAsItWas (about other old) (about other new)
     go other true same = subst (λ (p : List ℕ). StaysAsItWas (about p old) (about p new)) ((bytes_eq-Decides path other).0 same) stays
     go other false apart = unchanged (about other old) (about other new) (only.others other apart)
 
-idle-stay : (events : List Event) → AllStay events events
-idle-stay events = record { files = λ path. unchanged (about path events) (about path events) refl; prints = refl }
+idle-stay : (image : Image) (events : List Event) → StaysAll image events events
+idle-stay image events = record { files = λ path. unchanged (about path events) (about path events) refl; touches = inl (λ path. refl); prints = refl }
 
 pub told-place : (why : Reason) (name : List ℕ) (mid new : List Event) → TellsReason why name mid new → may_replace new ≡ may_replace mid
 told-place why name mid new (text, ok, is, p) = ap may_replace p
@@ -203,7 +226,7 @@ told-reads why name mid new (text, ok, is, p) = ap read p
 writes-ends : (image : Image) (was bytes line file : List ℕ) (old : List Event) (ending : Ending) (new : List Event) → image.place.is_held ≡ true
     → Writes content.Image image.place.path.bytes.items image.place.name.bytes.items file old (Err ending) new → EndsStore image was bytes line (Err ending) old new
 writes-ends image was bytes line file old (NotWritten it AsItWas) new is_held (is, fault, mid, u, told) =
-    told-stay (reason.Fault fault) image.place.name.bytes.items old mid new told (all-stay image.place.path.bytes.items old mid u.same u.only)
+    told-stay image (reason.Fault fault) image.place.name.bytes.items old mid new told (all-stay image old mid is_held u.same u.only)
 writes-ends image was bytes line file old (NotWritten it InPart) new is_held (is, fault, mid, u, told) = record {
   is_held = is_held;
   in_place = told-place (reason.Fault fault) image.place.name.bytes.items mid new told ∙ u.in_place;
@@ -228,9 +251,9 @@ kept-ends false image was bytes line file old ending new is_held (is, ok, p) =
     subst (λ (e : Ending). EndsStore image was bytes line (Err e) old new) (sym is) (λ path. ap (λ (n : List Event). about path n) p, ap output p)
 
 -- an image that can't be saved
-cannot-stay : (image : Image) (bytes : List ℕ) (old new : List Event) → TellsCannot image bytes old new → AllStay old new
-cannot-stay image bytes old new (inl (is_held, told)) = told-stay (reason.Fault image.place.why) image.place.name.bytes.items old old new told (idle-stay old)
-cannot-stay image bytes old new (inr (cannot, told)) = told-stay reason.NoRoom image.place.name.bytes.items old old new told (idle-stay old)
+cannot-stay : (image : Image) (bytes : List ℕ) (old new : List Event) → TellsCannot image bytes old new → StaysAll image old new
+cannot-stay image bytes old new (inl (is_held, told)) = told-stay image (reason.Fault image.place.why) image.place.name.bytes.items old old new told (idle-stay image old)
+cannot-stay image bytes old new (inr (cannot, told)) = told-stay image reason.NoRoom image.place.name.bytes.items old old new told (idle-stay image old)
 
 unsaved : (is : Bool) (image : Image) (was bytes line : List ℕ) (old : List Event) (ending : Ending) (new : List Event) → SavesIf is image bytes old (Err ending) new → EndsStore image was bytes line (Err ending) old new
 unsaved true image was bytes line old ending new p = absurd p.0
@@ -284,7 +307,7 @@ gets-volume : FindsSaved → FindsUnsaved → (form : ImageForm) (image : Image)
     → HasVolume image bytes o.was mid new → GetsVolume form image o.path o.was bytes old new
 gets-volume saves stays form image bytes calls old opened_at mid new o quiet (inl w) = record {
   file = w.file;
-  has = inl (w.with, becomes o.path image.place.path.bytes.items o.was w.file calls old mid new quiet (o.path_is ∙ held-path image.place form.file.bytes.items w.is_held) w.becomes);
+  has = inl (w.is_held, w.with, becomes o.path image.place.path.bytes.items o.was w.file calls old mid new quiet (o.path_is ∙ held-path image.place form.file.bytes.items w.is_held) w.becomes);
   found = saves form o.place o.was bytes w.file image o.opening opened_at o.judged w.with w.kind;
 }
 gets-volume saves stays form image bytes calls old opened_at mid new o quiet (inr (same, none)) = record {
@@ -301,6 +324,7 @@ part-ends form image calls old opened_at mid new o quiet reads part =
       place = image.place;
       path = o.path;
       held = o.opened.held;
+      is_held = part.is_held;
       was = o.was;
       calls = calls;
       reads = part.reads ∙ reads;
@@ -309,11 +333,21 @@ part-ends form image calls old opened_at mid new o quiet reads part =
       others = λ other apart. part.others other (subst (λ (p : List ℕ). bytes_eq p other ≡ false) path_is apart) ∙ quiet.files other;
     }
 
-stays-after : (calls old mid new : List Event) → IsQuiet calls old mid → AllStay mid new → AllStay old new
-stays-after calls old mid new quiet stay = record {
+stays-after : (form : ImageForm) (image : Image) (calls old opened_at mid new : List Event) (o : HasOpened form old image opened_at) → IsQuiet calls old mid → StaysAll image mid new → AllStay form old new
+stays-after form image calls old opened_at mid new o quiet stay = record {
   files = λ path. subst (λ (s : List Step). StaysAsItWas s (about path new)) (quiet.files path) (stay.files path);
+  touches = go stay.touches;
   prints = stay.prints ∙ quiet.prints;
-}
+} where
+  go : ChangesNothing mid new ⊎ IsAlone image mid new → TouchesItAlone form old new
+  go (inl none) = inl (λ path. none path ∙ quiet.files path)
+  go (inr it) = inr (record {
+    place = image.place;
+    path = o.path;
+    held = o.opened.held;
+    is_held = it.is_held;
+    alone = λ other apart. it.alone other (subst (λ (p : List ℕ). bytes_eq p other ≡ false) (o.path_is ∙ held-path image.place form.file.bytes.items it.is_held) apart) ∙ quiet.files other;
+  })
 
 -- how the change that was to be stored has ended
 pub by-store : FindsSaved → FindsUnsaved → (form : ImageForm) (calls : List Event) (image : Image) (bytes line : List ℕ) (done : Bool → List Event → List Event → Type 0)
@@ -340,7 +374,7 @@ by-store saves stays form calls image bytes line done old result new r f = go re
     go (Ok it) s = made true s
     go (Err Unreported) s = made false s
     go (Err NoReader) s = made false s
-    go (Err (NotWritten it AsItWas)) s = stays-after whole old r.mid new quiet s
+    go (Err (NotWritten it AsItWas)) s = stays-after form image whole old r.opened_at r.mid new r.start quiet s
     go (Err (NotWritten it InPart)) s = part-ends form image calls old r.opened_at r.mid new r.start quiet reads s
     go (Err (Line it)) s = (λ path. s.0 path ∙ quiet.files path, s.1 ∙ quiet.prints)
     go (Err (Fault it)) s = absurd s

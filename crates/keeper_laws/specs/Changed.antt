@@ -71,9 +71,9 @@ pub record Becomes (path was file : List ℕ) (old new : List Event) : Type 0 wh
       → (found ≡ Some file) ⊎ Leaves (ever start (about path old)) found
   pub others : (other : List ℕ) → bytes_eq path other ≡ false → about other new ≡ about other old
 
--- The image file of a path has a volume of these bytes now, and each byte beside the volume as it was. Where it had that volume nothing is
--- changed. Whoever reads it by such a form finds these bytes.
+-- The image file of a path has a volume of these bytes now, and each byte beside the volume as it was. It is held while it is changed. Where it
+-- had that volume nothing is changed. Whoever reads it by such a form finds these bytes.
 pub record GetsVolume (form : ImageForm) (image : Image) (path was bytes : List ℕ) (old new : List Event) : Type 0 where
   pub file : List ℕ
-  pub has : (IsFileWith image bytes file × Becomes path was file old new) ⊎ ((bytes ≡ image.bytes.items) × (file ≡ was) × ChangesNothing old new)
+  pub has : ((image.place.is_held ≡ true) × IsFileWith image bytes file × Becomes path was file old new) ⊎ ((bytes ≡ image.bytes.items) × (file ≡ was) × ChangesNothing old new)
   pub found : IsFoundAgain form file bytes

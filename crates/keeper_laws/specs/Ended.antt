@@ -1,5 +1,5 @@
 -- What each ending of a change means for the files of who runs it.
-use Rattle.std.specs.Prelude.{◌≡◌, ℕ, Bool, true, false, Result, Ok, Err, List, ◌∷◌, ◌++◌}
+use Rattle.std.specs.Prelude.{◌≡◌, ◌⊎◌, ℕ, Bool, true, false, Result, Ok, Err, List, ◌∷◌, ◌++◌}
 use Rattle.std.specs.Str.{bytes_eq}
 use Rattle.hosts.specs.Event.{Event, look_call}
 use Rattle.hosts.specs.Place.{about}
@@ -17,9 +17,30 @@ use Rattle.keeper_laws.specs.Changed.{IsHeldAt}
 abbrev pub DoesNothing : List Event → List Event → Type 0
 DoesNothing old new = ChangesNothing old new × (output new ≡ output old)
 
+-- the file at one path, and the one beside it, may be made, changed or removed, and no other
+abbrev pub TouchesAlone : List ℕ → List Event → List Event → Type 0
+TouchesAlone path old new = (other : List ℕ) → bytes_eq path other ≡ false → about other new ≡ about other old
+
+-- one file at most is touched so
+abbrev pub TouchesOne : List Event → List Event → Type 0
+TouchesOne old new = (path : List ℕ) × TouchesAlone path old new
+
+-- the image file that is asked for is held, and then it alone is touched
+pub record TouchesHeld (form : ImageForm) (old new : List Event) : Type 0 where
+  pub place : ImagePlace
+  pub path : List ℕ
+  pub held : IsHeldAt form place path old
+  pub is_held : place.is_held ≡ true
+  pub alone : TouchesAlone path old new
+
+-- no file is touched, or that one
+abbrev pub TouchesItAlone : ImageForm → List Event → List Event → Type 0
+TouchesItAlone form old new = ChangesNothing old new ⊎ TouchesHeld form old new
+
 -- Each file is as it was, and a crash leaves what it might have left before. No line of a change is printed.
-pub record AllStay (old new : List Event) : Type 0 where
+pub record AllStay (form : ImageForm) (old new : List Event) : Type 0 where
   pub files : (path : List ℕ) → StaysAsItWas (about path old) (about path new)
+  pub touches : TouchesItAlone form old new
   pub prints : output new ≡ output old
 
 -- The image file that was read, which could only be written in its place, may hold a part of the new bytes. No other file is changed, and no line
@@ -28,11 +49,12 @@ pub record MayHoldAPart (form : ImageForm) (old new : List Event) : Type 0 where
   pub place : ImagePlace
   pub path : List ℕ
   pub held : IsHeldAt form place path old
+  pub is_held : place.is_held ≡ true
   pub was : List ℕ
   pub calls : List Event
   pub reads : read new ≡ calls ++ (look_call path was ∷ read old)
   pub in_place : may_replace new ≡ false
-  pub others : (other : List ℕ) → bytes_eq path other ≡ false → about other new ≡ about other old
+  pub others : TouchesAlone path old new
   pub prints : output new ≡ output old
 
 -- What is to be done is done where the command ends well, and where only its line can't be printed. A refusal changes nothing. An image that
@@ -42,7 +64,7 @@ abbrev pub EndsAs : ImageForm → (Bool → List Event → List Event → Type 0
 EndsAs form done (Ok it) old new = done true old new
 EndsAs form done (Err Unreported) old new = done false old new
 EndsAs form done (Err NoReader) old new = done false old new
-EndsAs form done (Err (NotWritten it AsItWas)) old new = AllStay old new
+EndsAs form done (Err (NotWritten it AsItWas)) old new = AllStay form old new
 EndsAs form done (Err (NotWritten it InPart)) old new = MayHoldAPart form old new
 EndsAs form done (Err (Line it)) old new = DoesNothing old new
 EndsAs form done (Err (Fault it)) old new = DoesNothing old new

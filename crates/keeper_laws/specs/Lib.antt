@@ -4,6 +4,7 @@ pub mod Copied
 pub mod CopiedAll
 pub mod Ended
 pub mod GettingBack
+pub mod Held
 pub mod Made
 pub mod Sound
 pub mod Stored

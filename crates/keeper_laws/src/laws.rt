@@ -1,10 +1,12 @@
 //! What a command that ended means for who keeps images.
-ghost use Rattle.std.specs.Prelude.{◌≡◌, ◌≢◌, ◌⊎◌, ◌<◌, ℕ, Bool, true, List, [], None, Option, Some, Ok, Result, All};
+ghost use Rattle.std.specs.Prelude.{◌≡◌, ◌≢◌, ◌⊎◌, ◌<◌, ◌∷◌, ◌++◌, ℕ, Bool, true, false, List, [], None, Option, Some, Ok, Result, All};
 ghost use Rattle.std.specs.Global.{Vec};
 ghost use Rattle.hosts.specs.Event.{Event};
+ghost use Rattle.hosts.specs.Holding.{IsLawful, turns};
 ghost use Rattle.char_pack.specs.declared.forms.GetForm.{GetForm as How};
 ghost use Rattle.char_pack.specs.declared.forms.GetForm.TheVariants as get_as;
 ghost use Rattle.char_pack.specs.declared.forms.PutForm.TheVariants as put_as;
+ghost use Rattle.name_spelling.specs.Patterns.{is_like_one};
 ghost use Rattle.name_spelling.specs.Reading.{typed_name};
 ghost use Rattle.volume_image.specs.Image.{IsImageOf};
 ghost use Rattle.archive_files.specs.declared.faults.ArchiveFault.{ArchiveFault as Fault};
@@ -12,6 +14,8 @@ ghost use Rattle.archive_files.specs.Checking.{Checks};
 ghost use Rattle.archive_files.specs.Asking.{OfName, Target, asked_name};
 ghost use Rattle.archive_files.specs.Getting.{Gets, IsTapeOf, line_feeds};
 ghost use Rattle.archive_files.specs.Laws.{whole_blocks};
+ghost use Rattle.archive_many.specs.Laws.{IsNoneOf};
+ghost use Rattle.archive_many.specs.declared.putting.NewFile.{NewFile};
 ghost use Rattle.outcome.specs.declared.endings.Ending.{Ending as End};
 ghost use Rattle.program_tasks.specs.declared.forms.CopyForm.{CopyForm as Copy};
 ghost use Rattle.program_tasks.specs.declared.forms.CopyManyForm.{CopyManyForm as CopyMany};
@@ -20,11 +24,13 @@ ghost use Rattle.program_tasks.specs.declared.forms.DeleteForm.{DeleteForm as De
 ghost use Rattle.program_tasks.specs.declared.forms.ImageForm.{ImageForm as Kept};
 ghost use Rattle.program_tasks.specs.declared.forms.PutManyForm.{PutManyForm as PutMany};
 ghost use Rattle.program_tasks.specs.declared.forms.PutOneForm.{PutOneForm as PutOne};
+ghost use Rattle.image_files.specs.Reading.{Opens};
+ghost use Rattle.image_files.specs.declared.images.Image.{Image as Opened};
 ghost use Rattle.change_commands.specs.Patching.{PatchesWord};
 ghost use Rattle.change_commands.specs.declared.patches.WordPatch.{WordPatch as Patch};
 ghost use Rattle.put_commands.specs.PuttingMany.{PutsMany};
 ghost use Rattle.salvage_commands.specs.Rescuing.{RescuesImage};
-ghost use Rattle.change_commands.specs.CopyingMany.{CopiesMany};
+ghost use Rattle.change_commands.specs.CopyingMany.{CopiesMany, words_in};
 ghost use Rattle.change_commands.specs.Changing.{Renames, Squeezes};
 ghost use Rattle.change_commands.specs.Copying.{Copies, new_name};
 ghost use Rattle.change_commands.specs.Creating.{CreatesFile, CreatesVolume, IsBlankDisk, IsBlankImage, IsBlankTapeFile};
@@ -36,7 +42,8 @@ ghost use Rattle.asked_files.specs.Asking.{wanted_file};
 ghost use Rattle.keeper_laws.specs.Changes.{HasDeleted, HasEmptied, HasPatched, HasRenamed, HasSqueezed};
 ghost use Rattle.keeper_laws.specs.Copied.{HasCopied};
 ghost use Rattle.keeper_laws.specs.CopiedAll.{HasCopiedAll};
-ghost use Rattle.keeper_laws.specs.Ended.{EndsAs, RefusesAloud};
+ghost use Rattle.keeper_laws.specs.Ended.{EndsAs, RefusesAloud, TouchesItAlone, TouchesOne};
+ghost use Rattle.keeper_laws.specs.Held.{GoesOnStill, IsHeldSince, calls_of};
 ghost use Rattle.keeper_laws.specs.Made.{EndsMade, EndsRescued, HasCreated, HasRescued};
 ghost use Rattle.keeper_laws.specs.Sound.{IsSoundWith, kept_names};
 ghost use Rattle.keeper_laws.specs.Stored.{HasStored};
@@ -44,7 +51,10 @@ ghost use Rattle.keeper_laws.specs.StoredAll.{HasStoredAll};
 
 use crate::verb_laws::refused_changes;
 use archive_files::laws::{copied_file, put_is_got};
+use archive_many::laws::{chosen_are_copied, put_many_is_got};
 use bin_tape::laws::{longer_tape, no_fault};
+use char_pack::laws::packed_bytes;
+use hosts::laws::lost_updates;
 use image_files::laws::found_again;
 use volume_image::image_round_trip;
 use volume_salvage::laws::salvaged_files;
@@ -106,6 +116,59 @@ pub fn ended_creations()
         → CreatesFile IsBlankDisk form DISK_BLOCKS old result new → EndsMade (HasCreated IsBlankDisk form DISK_BLOCKS) result old new }
 {}
 
+/// Which file a command that changes an image makes, changes or takes away, in whichever way it ends. That is none, or the image file alone,
+/// which it held before, and the one beside that.
+pub fn touched_files()
+    ensures puts { (form : PutOne) (old : List Event) (result : Result (Unit {0}) End) (new : List Event) → Puts form old result new
+        → TouchesItAlone form.image old new }
+    ensures puts_all { (form : PutMany) (old : List Event) (result : Result (Unit {0}) End) (new : List Event) → PutsMany form old result new
+        → TouchesItAlone form.image old new }
+    ensures copies { (form : Copy) (old : List Event) (result : Result (Unit {0}) End) (new : List Event) → Copies form old result new
+        → TouchesItAlone form.to old new }
+    ensures copies_all { (form : CopyMany) (old : List Event) (result : Result (Unit {0}) End) (new : List Event) → CopiesMany form old result new
+        → TouchesItAlone form.to old new }
+    ensures squeezes { (form : Kept) (old : List Event) (result : Result (Unit {0}) End) (new : List Event) → Squeezes form old result new
+        → TouchesItAlone form old new }
+    ensures renames { (wanted : Target) (other : List ℕ) (form : Kept) (old : List Event) (result : Result (Unit {0}) End) (new : List Event)
+        → Renames wanted other form old result new → TouchesItAlone form old new }
+    ensures deletes { (form : Delete) (old : List Event) (result : Result (Unit {0}) End) (new : List Event) → Deletes form old result new
+        → TouchesItAlone form.image old new }
+    ensures patches { (word : Patch) (form : Kept) (old : List Event) (result : Result (Unit {0}) End) (new : List Event) → PatchesWord word form old result new
+        → TouchesItAlone form old new }
+    ensures empties { (form : Kept) (old : List Event) (result : Result (Unit {0}) End) (new : List Event) → CreatesVolume form old result new
+        → TouchesItAlone form old new }
+{
+    ended_changes();
+    ended_many();
+    ended_words();
+}
+
+/// Which file `create` and `rescue` make, change or take away, in whichever way they end: the one of one path at most, and the one beside that.
+pub fn touched_places()
+    ensures volumes { (form : Create) (blocks : ℕ) (old : List Event) (result : Result (Unit {0}) End) (new : List Event)
+        → CreatesFile (IsBlankImage blocks) form blocks old result new → TouchesOne old new }
+    ensures tapes { (form : Create) (old : List Event) (result : Result (Unit {0}) End) (new : List Event)
+        → CreatesFile IsBlankTapeFile form TAPE_BLOCKS old result new → TouchesOne old new }
+    ensures disks { (form : Create) (old : List Event) (result : Result (Unit {0}) End) (new : List Event)
+        → CreatesFile IsBlankDisk form DISK_BLOCKS old result new → TouchesOne old new }
+    ensures rescues { (name : List ℕ) (form : Kept) (old : List Event) (result : Result (Unit {0}) End) (new : List Event)
+        → RescuesImage name form old result new → TouchesOne old new }
+{
+    ended_creations();
+    ended_rescues();
+}
+
+/// Of two programs that change one image none loses the other's change. Once a command has read an image file that it holds, each change of that
+/// file is its own, until it has ended. So what it read is what it changes. That rests on the host: it lets one program alone hold a file, and a
+/// program changes no file that it doesn't hold.
+pub fn held_images()
+    ensures { (form : Kept) (image : Opened) (old new : List Event) (who : Bool) (later joint : List (Bool × Option Event)) → Opens form old (Ok image) new
+        → image.place.is_held ≡ true → calls_of who joint ≡ new → IsLawful (turns image.place.path.bytes.items (later ++ joint)) → GoesOnStill who (later ++ joint)
+        → IsHeldSince who image.place.path.bytes.items (later ++ joint) }
+{
+    lost_updates();
+}
+
 /// After `put` with status 0 the image file has its volume with the file that was read, and each byte beside the volume as it was. So it is
 /// after a crash, unless a note says otherwise. A crash before that left this, whole, or what it might have left before. Whoever reads the
 /// image again finds that volume. No other file is changed, and STORED was printed.
@@ -151,6 +214,40 @@ pub fn copy_comes_back()
     longer_tape();
     no_fault();
     copied_file();
+}
+
+/// What `put` of several files took, `get` gives where the image file is as it was left. That is so of each file put as frames whose name no
+/// later one has. Its bytes have zeros to the end of their last block. Another file is got as before, in each form.
+pub fn puts_come_back()
+    ensures frames { (form : PutMany) (ok : Bool) (old new : List Event) (stored : HasStoredAll form ok old new) (before following : List NewFile) (file : NewFile)
+        (name : List ℕ) → stored.files ≡ before ++ file ∷ following → IsNoneOf file.name following → typed_name name ≡ Some file.name → file.form ≡ put_as.Frames
+        → All (λ byte. byte < 256) file.bytes.items → IsPrinted form.image stored.has.file name get_as.Frames (whole_blocks file.bytes.items) }
+    ensures others { (form : PutMany) (ok : Bool) (old new : List Event) (stored : HasStoredAll form ok old new) (name : List ℕ) (number : ℕ) (how : How)
+        (before : Vec ℕ) → typed_name name ≡ Some number → IsNoneOf number stored.files → Gets stored.image.bytes.items (OfName name) how (Ok before)
+        → IsPrinted form.image stored.has.file name how before.items }
+{
+    image_round_trip();
+    longer_tape();
+    no_fault();
+    packed_bytes();
+    put_many_is_got();
+}
+
+/// What `copy` of several files copied, `get` gives of the image file as it was left. In each form these are the bytes that it gave of the file that
+/// a word chose. A file whose name is like no word is got as before.
+pub fn copies_come_back()
+    ensures copies { (form : CopyMany) (ok : Bool) (old new : List Event) (copied : HasCopiedAll form ok old new) (name : List ℕ) (number : ℕ) (how : How)
+        (before : Vec ℕ) → typed_name name ≡ Some number → is_like_one (words_in form) number ≡ true → Gets copied.from (OfName name) how (Ok before)
+        → IsPrinted form.to copied.has.file name how before.items }
+    ensures others { (form : CopyMany) (ok : Bool) (old new : List Event) (copied : HasCopiedAll form ok old new) (name : List ℕ) (number : ℕ) (how : How)
+        (before : Vec ℕ) → typed_name name ≡ Some number → is_like_one (words_in form) number ≡ false → Gets copied.image.bytes.items (OfName name) how (Ok before)
+        → IsPrinted form.to copied.has.file name how before.items }
+{
+    image_round_trip();
+    longer_tape();
+    no_fault();
+    copied_file();
+    chosen_are_copied();
 }
 
 /// What `rescue` wrote, where it kept a file at least, a check finds sound, with just the files that it kept. A check that doesn't find so lacks

@@ -223,7 +223,7 @@ asked-nothing name input true old result new (inr p) =
     nothing-joined old p.between new (full-nothing name p.given old p.between p.done) (seen-nothing name input p.given p.between result new p.after)
 
 -- who is asked, and answers, has changed no file, and nothing is printed on standard output
-asks-nothing : (is_typed : Bool) (replaced : Option (List ℕ)) (input : Reading) (old : List Event) (result : Result (Unit {0}) Ending) (new : List Event) → AsksFirst is_typed replaced input old result new → DoesNothing old new
+pub asks-nothing : (is_typed : Bool) (replaced : Option (List ℕ)) (input : Reading) (old : List Event) (result : Result (Unit {0}) Ending) (new : List Event) → AsksFirst is_typed replaced input old result new → DoesNothing old new
 asks-nothing false replaced input old result new p = (λ path. ap (λ (n : List Event). about path n) p.1, ap output p.1)
 asks-nothing true None input old result new p = (λ path. ap (λ (n : List Event). about path n) p.1, ap output p.1)
 asks-nothing true (Some name) input old (Ok it) new (inl p) = absurd p
@@ -312,11 +312,11 @@ pub record Reports (done : Bool → List Event → List Event → Type 0) : Type
 unchanged : (old new : List Step) → new ≡ old → StaysAsItWas old new
 unchanged old new is start = subst (λ (n : List Step). IsAsItWas (replay start old) (replay start n)) (sym is) (record { seen = refl; on_disk = refl; earlier = refl })
 
-all-stay : (old new : List Event) → DoesNothing old new → AllStay old new
-all-stay old new none = record { files = λ path. unchanged (about path old) (about path new) (none.0 path); prints = none.1 }
+all-stay : (form : ImageForm) (old new : List Event) → DoesNothing old new → AllStay form old new
+all-stay form old new none = record { files = λ path. unchanged (about path old) (about path new) (none.0 path); touches = inl none.0; prints = none.1 }
 
 pub image-stays : (form : ImageForm) (old new : List Event) → DoesNothing old new → LeavesImage form old new
-image-stays form old new none = inl (all-stay old new none)
+image-stays form old new none = inl (all-stay form old new none)
 
 pub change-ill : (form : ImageForm) (done : Bool → List Event → List Event → Type 0) → Reports done → (ending : Ending) (old new : List Event) → EndsAs form done (Err ending) old new
     → LeavesImage form old new ⊎ (failed_prints (output new) ≡ suc (failed_prints (output old)))

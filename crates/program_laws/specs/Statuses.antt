@@ -25,7 +25,7 @@ pub record MeansSo (tries leaves : List Event → List Event → Type 0) (done :
 
 -- each file is as it was, or the image file may hold a part; that is so only where it could only be written in its place
 abbrev pub LeavesImage : ImageForm → List Event → List Event → Type 0
-LeavesImage form old new = AllStay old new ⊎ MayHoldAPart form old new
+LeavesImage form old new = AllStay form old new ⊎ MayHoldAPart form old new
 
 -- what the status of a change of an image means; each try before did nothing
 abbrev pub Means : ImageForm → (Bool → List Event → List Event → Type 0) → ℕ → List Event → List Event → Type 0
