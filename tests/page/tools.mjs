@@ -155,7 +155,8 @@ export async function run(title, tests) {
 /** @param {string} text */
 export const note = text => { noted = `: ${text}`; };
 
-// Runs tests in turn, each in the page and the folder as the one before left them, and prints 'N passed, M failed'.
+// Runs tests in turn, each in the page and the folder as the one before left them, and prints 'N passed, M failed'. One that is asked for by its name
+// alone needs nothing of those before it.
 /** @param {string} title @param {Turn[]} tests */
 export async function runInTurn(title, tests) {
     const server = await serve(folder), page = await Browser.open();
@@ -164,7 +165,7 @@ export async function runInTurn(title, tests) {
     try {
         await page.size(1200, 900);
         await page.go(server.url);
-        for (const { name, body } of tests) {
+        for (const { name, body } of tests.filter(({ name }) => !only.length || only.some(part => name.includes(part)))) {
             const from = Date.now();
             noted = '';
             try {
