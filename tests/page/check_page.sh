@@ -14,7 +14,7 @@ for word; do
     *) echo "check_page: usage: tests/page/check_page.sh [--quick]" >&2; exit 2 ;;
     esac
 done
-which=--proved program=crates/pdp8/out/pdp8 texts=() scripts=1000 sequences=40 browsed='kept tabs drops hand closed undone losses archives shelf panel disks whole offers'
+which=--proved program=crates/pdp8/out/pdp8 texts=() scripts=1000 sequences=50 browsed='kept tabs drops hand closed undone losses archives shelf panel disks whole offers'
 if [[ " $* " == *" --quick "* ]]; then
     which=--unproved program=target/unproved/pdp8/pdp8 texts=(README.md docs/*.md docs/*/*.md) scripts=100 sequences='' browsed=losses
 fi
