@@ -74,6 +74,8 @@ export class Tabs {
     // Shows a pane. The address gets its name, so Back and a link lead to it.
     /** @param {Pane} name @param {boolean} [isNew] */
     show(name, isNew = true) {
+        // a caret in a long text that is hidden has the browser look for its place at each picture, which takes it a second
+        if (this.shown !== name) getSelection()?.empty();
         if (isNew && this.shown !== undefined && this.shown !== name) history.pushState(null, '', `#${name}`);
         this.shown = name;
         for (const it of ALL) {

@@ -186,6 +186,25 @@ const tests = {
         await page.until(`getComputedStyle(document.getElementById('work')).opacity === '1'`);
         await page.until(`!geivottu.programs.isAsked && getComputedStyle(document.getElementById('work')).opacity === '0'`);
     },
+    'a caret in a long text takes no time on another pane': async (page, url) => {
+        await page.go(url);
+        await assemble(page, 'LOOP', LOOP);
+        await page.click('#to-core');
+        await isTold(page, 'machine-status', 'words are in core');
+        await pane(page, 'source');
+        await page.look(`(() => { const it = document.getElementById('text'); it.value = ${JSON.stringify(LINE.repeat(LINES) + LOOP)}; it.focus(); it.setSelectionRange(${LINES * 5}, ${LINES * 5}); })()`);
+        for (const it of ['A', 'Enter', 'A', 'Enter']) await page.key(it);
+        await pane(page, 'machine');
+        await page.click('#key-load');
+        const before = await spent(page);
+        for (let k = 1; k <= 5; k++) {
+            await page.click('#key-step');
+            await page.until(`document.getElementById('steps').textContent.startsWith('${k} step')`);
+        }
+        const own = (await spent(page) - before) / 5;
+        console.log(`figures: a step beside a long text is ${own.toFixed(1)} ms of work`);
+        holds(own < 400, `a step is ${own.toFixed(1)} ms of work`);
+    },
     'a script makes half of the native steps a second': async (page, url) => {
         const script = count => `DEPOSIT 00200 2210\nDEPOSIT 00201 5200\nDEPOSIT 00202 2211\nDEPOSIT 00203 5200\nDEPOSIT 00204 5200\nSTART 00200\n${'GO 1000000\n'.repeat(count)}`;
         native(['create', 'V', '20']);
