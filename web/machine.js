@@ -302,6 +302,8 @@ export class Machine {
         await this.#startLoaded();
         await this.#lookedAt('STEP');
         tell('machine-status', stepsIn(this.reply));
+        this.#keep();
+        this.#show();
         await this.#stopped();
     }
 
