@@ -2,6 +2,8 @@
 // Files, and the notes that tabs share, are sent to the other tabs of the page, which have them then as well. A note that a claim stands for is written
 // by the tab that has the claim alone. Any other note is of the tab. The text that is open is the note `text`; others are notes `text NAME`.
 const SLOTS = /** @type {const} */ (['files', 'notes']), OWN = 'geivottu ';
+// What this tab keeps of what it was writing as it was left.
+const LATE = 'geivottu-late';
 /** @type {[RegExp, string][]} */
 const OWNERS = [[/^(text|source-name|tape)$|^(text|further|dialect|form|options|from) /, 'text'], [/^(lines|script-saving|strict)$/, 'script'], [/^(paper|reader|tty-(going|run|reads|tape|own))$/, 'teletype'],
     [/^(machine|printed|access|steps|going|loaded|address|switches|fields|breaks|listing|names|console|keys)$/, 'machine']];
@@ -28,6 +30,9 @@ export class Store extends EventTarget {
     #base = null;
     /** @type {Map<string, [Slot, string]>} */
     #due = new Map();
+    // What is being written.
+    /** @type {Map<string, [Slot, string]>} */
+    #writing = new Map();
     /** @type {Map<string, [Slot, string]>} */
     #failed = new Map();
     // What the other tabs don't have yet.
@@ -61,6 +66,7 @@ export class Store extends EventTarget {
         } catch {
             it.#base = null; // a browser that keeps nothing, as in a private window
         }
+        it.#takeLate();
         for (const name of ['pagehide', 'visibilitychange']) addEventListener(name, () => it.leave());
         it.#tabs.postMessage({ asks: true });
         return it;
@@ -70,7 +76,32 @@ export class Store extends EventTarget {
     leave() {
         this.dispatchEvent(new Event('leave'));
         this.#sendNews();
+        this.#keepLate();
         this.#write();
+    }
+
+    // Keeps the notes that aren't written yet in this tab, too: a busy browser breaks off what is written as a page is left.
+    #keepLate() {
+        const late = [...new Map([...this.#writing, ...this.#due]).values()].filter(([slot]) => slot === 'notes').map(([, key]) => this.notes.has(key) ? [key, this.notes.get(key)] : [key]);
+        try {
+            if (this.#base) sessionStorage.setItem(LATE, JSON.stringify(late, (_, it) => it instanceof Uint8Array ? { base64: btoa(String.fromCharCode(...it)) } : it));
+        } catch {
+            sessionStorage.removeItem(LATE); // what is too large is in the browser's store at most
+        }
+    }
+
+    // Takes the notes that the page before has kept so, unless another tab has what they are of.
+    #takeLate() {
+        const text = this.#base && sessionStorage.getItem(LATE);
+        if (!text) return;
+        sessionStorage.removeItem(LATE);
+        /** @type {[string, ...any][]} */
+        const late = JSON.parse(text, (_, it) => typeof it?.base64 === 'string' ? Uint8Array.from(atob(it.base64), it => it.charCodeAt(0)) : it);
+        if (!late.every(([key]) => ownerOf(key)?.startsWith('undo') || this.#mayWrite(key))) return;
+        for (const [key, ...value] of late) {
+            value.length ? this.notes.set(key, value[0]) : this.notes.delete(key);
+            this.#keep('notes', key, value[0]);
+        }
     }
 
     // What another tab sends: files and notes as they are now, or that it asks for those that this tab has.
@@ -246,10 +277,22 @@ export class Store extends EventTarget {
         if (!this.#base || !this.#due.size) return;
         const due = [...this.#due].filter(([id]) => !this.#failed.has(id)), again = [...new Map([...this.#failed, ...this.#due])].filter(([id]) => this.#failed.has(id));
         this.#due.clear();
+        const writing = this.#writing = new Map([...this.#writing, ...due]);
         const isWhole = this.#hasFailed(due.map(([, it]) => it)), apart = again.map(it => this.#writeApart(it));
         if (await isWhole) for (const it of due.sort(([, a], [, b]) => Number(this.#isThere(a)) - Number(this.#isThere(b)))) await this.#writeApart(it);
         await Promise.all(apart);
+        if (this.#writing === writing && !this.#failed.size) this.#hasWritten();
         this.dispatchEvent(new Event('kept'));
+    }
+
+    // All that was being written is in the browser's store.
+    #hasWritten() {
+        this.#writing = new Map();
+        try {
+            sessionStorage.removeItem(LATE);
+        } catch {
+            // a browser that keeps nothing
+        }
     }
 
     /** @param {[Slot, string]} entry */

@@ -62,6 +62,15 @@ await run('kept', {
             same('ONE TWO', await page.look(`document.getElementById('${id}').value`), name);
         }
     },
+    'what a browser breaks off as the page is left is there after a reload': async (page, url) => {
+        await page.go(url);
+        await pane(page, 'source');
+        await page.fill('#text', 'ONE');
+        await page.look('geivottu.store.settled()');
+        await leave(page, `IDBDatabase.prototype.transaction = () => { throw new Error('broken off'); };
+            document.getElementById('text').value = 'TWO'; document.getElementById('text').dispatchEvent(new Event('input', { bubbles: true }))`);
+        same('TWO', await page.look(`document.getElementById('text').value`), 'the text');
+    },
     'further texts go home by their names, where the store refuses': async (page, url) => {
         await page.call('Page.addScriptToEvaluateOnNewDocument', { source: `IDBFactory.prototype.open = () => { throw new DOMException('refused', 'SecurityError'); };` });
         await page.go(url);
