@@ -2,7 +2,7 @@
 use Rattle.std.proofs.Common.{◌≡◌, ◌∙◌, ◌⊎◌, ℕ, Bool, true, false, Option, None, Some, Result, Ok, Err, List, [], ◌∷◌, ◌++◌, ap, refl, subst, inl, inr, length, slice_get}
 use Rattle.std.specs.Global.{Vec}
 use Rattle.hosts.specs.Event.{Event, look_call, tell_call}
-use Rattle.hosts.specs.Streams.{output, read}
+use Rattle.hosts.specs.Streams.{output}
 use Rattle.archive_files.specs.declared.faults.ArchiveFault.{ArchiveFault}
 use Rattle.archive_files.specs.declared.faults.CopyFault.TheVariants as one
 use Rattle.archive_many.specs.Copying.{CopiesAll}

@@ -4,36 +4,32 @@ use Rattle.std.specs.Global.{Vec}
 use Rattle.std.proofs.lemmas.Slice.Eq.{bytes_eq-Decides}
 use Rattle.hosts.specs.Event.{Event, print_call}
 use Rattle.hosts.specs.Place.{about}
-use Rattle.char_pack.specs.declared.forms.GetForm.{GetForm}
 use Rattle.char_pack.specs.declared.forms.GetForm.TheVariants as get_as
 use Rattle.char_pack.specs.declared.forms.PutForm.{PutForm}
 use Rattle.char_pack.specs.declared.forms.PutForm.TheVariants as put_as
-use Rattle.archive_files.specs.Asking.{OfName}
-use Rattle.archive_files.specs.Getting.{Gets, line_feeds}
-use Rattle.archive_files.specs.Laws.{FramesComeBack, GivesOrLacks, LinesComeBack, TapeComesBack, whole_blocks}
+use Rattle.archive_files.specs.Getting.{line_feeds}
+use Rattle.archive_files.specs.Laws.{FramesComeBack, LinesComeBack, TapeComesBack, whole_blocks}
 use Rattle.archive_files.specs.Putting.{PutsFile}
 use Rattle.archive_files.specs.declared.faults.ArchiveFault.{ArchiveFault}
 use Rattle.archive_files.specs.declared.putting.NewImage.{NewImage}
 use Rattle.archive_many.specs.Putting.{info_or}
-use Rattle.outcome.specs.Endings.{ending_of_archive}
-use Rattle.outcome.specs.Hints.{image_note}
 use Rattle.outcome.specs.declared.endings.Ending.{Ending}
 use Rattle.program_tasks.specs.declared.forms.ImageForm.{ImageForm}
 use Rattle.program_tasks.specs.declared.forms.PutOneForm.{PutOneForm}
-use Rattle.image_files.specs.Again.{AreAlike, IsFoundAgain, LooksAndFinds, LooksIn}
+use Rattle.image_files.specs.Again.{IsFoundAgain, LooksAndFinds, LooksIn}
 use Rattle.image_files.specs.Answers.{Answers, AreLines}
 use Rattle.image_files.specs.Dates.{word_of_day}
 use Rattle.image_files.specs.Laws.{ChangesNothing, HasKeptKind}
-use Rattle.image_files.specs.Notes.{TellsOfImage}
 use Rattle.image_files.specs.Reading.{Looks, LooksAt}
 use Rattle.image_files.specs.Saving.{Prints, Saves, SavesIf, Stores}
 use Rattle.image_files.specs.Stored.{stored_line, words_of}
 use Rattle.image_files.specs.Work.{Then, Purely}
 use Rattle.image_files.specs.declared.dates.FileDay.{FileDay}
 use Rattle.image_files.specs.declared.images.Image.{Image}
-use Rattle.keeper_laws.specs.GettingBack.{HasAfter, IsGotBack, IsPrinted, LooksAndShows, PrintsOrLacks, ShowsIn}
+use Rattle.keeper_laws.specs.GettingBack.{HasAfter, IsGotBack, LooksAndShows}
 use Rattle.put_commands.specs.Putting.{MakesNew, PutsInto}
 use Rattle.get_commands.specs.Showing.{Shows}
+use Rattle.keeper_laws.proofs.BackLemmas.{is-printed}
 use Rattle.keeper_laws.proofs.RefusedLemmas.{judges-never}
 
 -- ## What a put that went well has done
@@ -86,33 +82,6 @@ pub has-put : (form : PutOneForm) (image : Image) (bytes : List ℕ) (day : Opti
 has-put form image bytes day old new (inl ends) = absurd ends
 has-put form image bytes day old new (inr it) =
     made-stored form image bytes (word_of_day day) old it.between new (judges-never form image.bytes.items bytes day old (Ok it.given) it.between it.done) it.after
-
--- ## What is printed of an image that is found
-
-answers-print : (gives : Result (Vec ℕ) ArchiveFault → Type 0) (size : ℕ) (bytes : List ℕ) → ((answer : Result (Vec ℕ) ArchiveFault) → gives answer → GivesOrLacks bytes answer)
-    → (old : List Event) (result : Result (Unit {0}) Ending) (new : List Event) → Then (Answers gives size) (λ it. Prints it.items) old result new → PrintsOrLacks bytes old result new
-answers-print gives size bytes law old (Ok it) new (inl ends) = absurd ends
-answers-print gives size bytes law old (Err ending) new (inl (fault, given, (is, told))) =
-    let lacks = law (Err fault) given in
-    inr (inl (is ∙ ap ending_of_archive lacks), subst (λ (f : ArchiveFault). TellsOfImage (image_note size f) old new) lacks told)
-answers-print gives size bytes law old result new (inr it) =
-    inl (subst (λ (events : List Event). Prints bytes events result new) it.done.1
-    (subst (λ (b : List ℕ). Prints b it.between result new) (law (Ok it.given) it.done.0) it.after))
-
-found-prints : (gives : List ℕ → Result (Vec ℕ) ArchiveFault → Type 0) (form again : ImageForm) (file image bytes : List ℕ) → IsFoundAgain form file image → AreAlike form again
-    → ((answer : Result (Vec ℕ) ArchiveFault) → gives image answer → GivesOrLacks bytes answer)
-    → (old : List Event) (result : Result (Unit {0}) Ending) (new : List Event) → ShowsIn gives again file old result new → PrintsOrLacks bytes old result new
-found-prints gives form again file image bytes found same law old (Ok it) new (inl ends) = absurd ends
-found-prints gives form again file image bytes found same law old (Err ending) new (inl ends) = inr (found.looked again old new (Err ending) same ends)
-found-prints gives form again file image bytes found same law old result new (inr it) =
-    let one = found.looked again old it.between (Ok it.given) same it.done in
-    subst (λ (events : List Event). PrintsOrLacks bytes events result new) one.1
-    (answers-print (gives it.given.items) (length it.given.items) bytes (λ answer given. law answer (subst (λ (b : List ℕ). gives b answer) one.0 given)) it.between result new it.after)
-
-is-printed : (form : ImageForm) (file image name bytes : List ℕ) (how : GetForm) → IsFoundAgain form file image
-    → ((answer : Result (Vec ℕ) ArchiveFault) → Gets image (OfName name) how answer → GivesOrLacks bytes answer) → IsPrinted form file name how bytes
-is-printed form file image name bytes how found law = λ again old new result same p.
-    found-prints (λ it. Gets it (OfName name) how) form again file image bytes found same law old result new p
 
 -- ## A file is got back
 
