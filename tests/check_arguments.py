@@ -18,12 +18,11 @@ from tests.rattle_sources import APART, Function, Source, closing, crate_of, fil
 # Arguments of which no clause speaks: an allocator, the system's runtime, and the caller, who has no contract.
 LENT = {"alloc", "rt", "caller"}
 FREE = {
-    ("fake_host", "new", "memory"),
     ("image_files", "end", "rooms"),
     ("outcome", "outcome_of", "room"),
     ("pal8_values", "word_value", "frames"),
-    ("task_commands", "run_task", "rooms"),
-    ("task_commands", "run_words", "rooms"),
+    ("program", "run_task", "rooms"),
+    ("program", "run_words", "rooms"),
 }
 ARGUMENT = re.compile(r"(?:&(?:'\w+ )?)?(?:mut )?(\w+)")
 

@@ -1,7 +1,7 @@
 #!/usr/bin/env python3
 """check_crates.py: crates.txt lists each crate once, after those that it stands on. A crate names each library that is listed for it, in a source, a
-definition or a proof. A library on which one crate alone stands has at least 30 functions, or its reason stands below. The last line is
-'N passed, M failed'.
+definition or a proof. A library on which one crate alone stands has at least 30 functions, or its reason stands below. The map of docs/ARCHITECTURE.md
+has each crate but benches and tests once, in a line above those that it stands on. It fits one screen. The last line is 'N passed, M failed'.
 """
 import glob
 import os
@@ -17,13 +17,13 @@ from tests.tally import Tally
 
 # A library that one crate stands on has as many functions at least.
 LEAST = 30
+# How many lines the map has at most, and how many columns.
+SCREEN = 52, 120
+# Where the crates of a line of the map begin; what they are for stands after two blanks.
+COLUMN = 15
 # Smaller libraries for one crate or none, and why they stand alone.
 ALONE = {
-    "statement_runs": "where a statement begins is a rule of the language, and the listing of its faults is one user of it",
-    "trace8e": "the line of a step of the 8/E, which any program that steps one has",
-    "profile8e": "counts of fetches on the 8/E, which have nothing of a command",
     "instructions8": "laws over the assembler, the processor and the disassembler, which none of these can have",
-    "text_columns": "columns that line up, of whatever text",
     "keeper_laws": "laws over the commands of several verbs",
     "program_laws": "laws over all tasks of the program",
     "host_output": "standard output as a writer, beside the host that it is of",
@@ -75,11 +75,28 @@ def look_at_order(crates: Crates, tally: Tally) -> None:
         tally.add("places", f"check_crates: {name} has a folder or a line of crates.txt alone")
 
 
+def look_at_map(crates: Crates, tally: Tally) -> None:
+    """Counts the crates that the map has in their place, and the map."""
+    with open(f"{TOP}/docs/ARCHITECTURE.md", encoding="utf-8") as text:
+        page = text.read().partition("\n## The map\n")[2]
+    lines = re.findall(r"(?m)^ {4}.*", page.partition("\n| ")[0])
+    rows = [re.split(" {2,}", it[COLUMN:])[0].split(", ") for it in lines]
+    wide = [it for it in lines if len(it) > SCREEN[1]]
+    tally.add("maps", "" if len(lines) <= SCREEN[0] and not wide else f"check_crates: the map has {len(lines)} lines, and {len(wide)} that are too wide")
+    place = {name: number for number, row in enumerate(rows) for name in row}
+    for name in sorted({*place, *(it for it in crates.names if it == "pdp8" or not crates.is_program(it) and not it.endswith("_tests"))}):
+        count = sum(row.count(name) for row in rows)
+        early = [it for it in crates.own.get(name, []) if place.get(it, 0) <= place.get(name, -1)]
+        wrong = f"{count} times" if count != 1 or name not in crates.names else f"not above {', '.join(early)}" if early else ""
+        tally.add("places", f"check_crates: the map has {name} {wrong}" if wrong else "")
+
+
 def main() -> int:
     tally, crates = Tally(sys.maxsize), Crates()
     look_at_order(crates, tally)
     look_at_uses(crates, tally)
     look_at_users(crates, tally)
+    look_at_map(crates, tally)
     return tally.end()
 
 

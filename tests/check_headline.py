@@ -78,7 +78,7 @@ def undeclared(named: Found) -> Iterator[str]:
 def unfolded() -> tuple[str, Found, Found]:
     """The page, its definitions, and the types that it names."""
     told, before, named_before = HEADING, Found(), Found()
-    for crate, name, words in (("system_session", "Session", FIRST), ("volume_jobs", "Jobs", SECOND), ("task_commands", "run_words", THIRD)):
+    for crate, name, words in (("system_session", "Session", FIRST), ("volume_jobs", "Jobs", SECOND), ("program", "run_words", THIRD)):
         begun, named = roots(crate, name)
         found = closure(begun)
         named = named.union(*(types(*it) for it in found)) - named_before

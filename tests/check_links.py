@@ -1,8 +1,8 @@
 #!/usr/bin/env python3
 """check_links.py: each relative link of README.md and of the pages below docs/ leads to a file that is there, and to a heading where it names one.
-What docs/ARCHITECTURE.md and docs/GLOSSARY.md name of the sources is there: each `crate/specs/File.antt` and `crate/src/file.rt`, and each
-`crate::function`. Each name that is a link is in the file that it leads to. Each line of a quoted clause is in one of the files to which the page
-links. The last line is 'N passed, M failed'.
+What README.md, docs/ARCHITECTURE.md and docs/GLOSSARY.md name of the sources is there: each `crate/specs/File.antt` and `crate/src/file.rt`, and
+each `crate::function`. Each name that is a link is in the file that it leads to. Each line of a quoted clause is in one of the files to which the
+page links. The last line is 'N passed, M failed'.
 
     tests/check_links.py              those pages
     tests/check_links.py FILE..       other pages, as if they were docs/ARCHITECTURE.md
@@ -21,7 +21,7 @@ from tests.rattle_sources import crates, definitions, files_of, source
 
 Line = tuple[int, str]
 Link = tuple[int, str, str]
-NAMING = [f"{TOP}/docs/{name}.md" for name in ("ARCHITECTURE", "GLOSSARY")]
+NAMING = [f"{TOP}/{name}.md" for name in ("README", "docs/ARCHITECTURE", "docs/GLOSSARY")]
 LINK = re.compile(r"\[([^\]\n]*)\]\(([^)\s]+)\)")
 CRATES = set(crates())
 

@@ -37,20 +37,11 @@ PLACES: dict[str, dict[str, tuple[int, str]]] = {
     "archive_many/src/wishes.rt": {
         "add_word": (1, "`choose_files`'s own, in the arm of its pattern"),
     },
-    "asked_files/src/refusals.rt": {
-        "fault_text": (1, "`put_reply`'s own, in the arm of its pattern"),
-    },
-    "task_commands/src/refused_words.rt": {
+    "program/src/refused_words.rt": {
         "text_of": (1, "`task`'s own, in the arm of its pattern"),
-    },
-    "image_files/src/answers.rt": {
-        "put_stored": (1, "`put_program` can fail for nothing else"),
     },
     "get_commands/src/giving.rt": {
         "tell_laid": (1, "`lay`'s own, which `line_of_laid` tells from the others"),
-    },
-    "change_commands/src/deleting.rt": {
-        "put_deleted": (1, "`put_program` can fail for nothing else"),
     },
     "pal8_asm/src/late.rt": {
         "put": (1, "`late_value`'s own, in the arm of its pattern"),
@@ -162,7 +153,7 @@ def places() -> tuple[dict[tuple[str, str], int], dict[tuple[str, str], list[str
         paths = files_of(crate)
         known = constants(paths)
         for path in paths:
-            if os.path.basename(path).endswith("faults.rt"):
+            if os.path.basename(path).endswith("faults.rt") or path.split("/src/")[0].endswith("_faults"):
                 continue
             file = os.path.relpath(path, f"{TOP}/crates")
             files.append(file)

@@ -15,7 +15,7 @@ sys.path.insert(0, TOP)
 from tests.rattle_sources import crates_of_program
 
 # those that count a volume's blocks
-COUNT_BLOCKS = {"archive_files", "command_table", "command_refusals", "command_line", "volume_jobs", "os8_dir", "os8_files", "volume_image", "image_kind", "rescue", "monitor8", "outcome", "program_tasks", "word12"}
+COUNT_BLOCKS = {"archive_files", "command_table", "command_refusals", "command_line", "volume_jobs", "os8_dir", "os8_files", "volume_image", "image_kind", "volume_salvage", "monitor8", "outcome", "program_tasks", "word12"}
 DECIMAL = re.compile(r"(?<![\w.])(32768|32767|8192|8191|4096|3072|2048|2047|128|127)(?![\w]|\.\d)")
 MOST = re.compile(r"(?<![\w.])4095(?![\w]|\.\d)")
 

@@ -2,8 +2,9 @@
 """check_try_edits.py [NAME..]: what tests/try_edits.py makes of a prover's answers, with a stand-in for the prover over a tree of two crates. A wrong
 body counts only where the prover refuses the function that it changes, alone or in one copy with others. It fails where it is proved, where the prover
 can't read it, where it breaks off or has too little memory, and where its old text isn't there once. A refusal is kept, and is asked for anew once
-anything changes that it rests on. The old texts of the wrong bodies of this tree must be there once. NAME takes the answers whose names have it, those
-that are `kept`, or those of `copies`. The last line is 'N passed, M failed'.
+anything changes that it rests on. Without the Answers of its functions a body must be refused too, and what is refused for its form alone is marked.
+The old texts of the wrong bodies of this tree must be there once. NAME takes the answers whose names have it, those that are `kept`, those of
+`copies`, or those of `forms`. The last line is 'N passed, M failed'.
 """
 import glob
 import os
@@ -47,7 +48,8 @@ pub fn double(n: u8) -> u8
 }
 """
 # What stands for `rattle check`. It notes for which functions it was asked, takes no word that it doesn't know, and answers with what the file of the
-# functions' name has: a line that the shell runs at the end, which gives the status, and what it prints.
+# functions' name has: a line that the shell runs at the end, which gives the status, and what it prints. Where Answers of the tree are left out, the
+# name ends in `.bare`, or in `.unchanged` where the bodies are those of the tree.
 PROVER = """#!/bin/bash
 [ "$1" = check ] || exit 3
 shift
@@ -61,8 +63,13 @@ while [ $# -gt 0 ]; do
     esac
     shift
 done
-echo "${only:-all}" >>"$ROOM/log"
-answer=$ROOM/answers/${only:-all}
+mode= low=$ROOM/tree/crates/low
+for name in next last; do
+    [ ! -e "$low/proofs/$name/Answers.antt" ] || [ -e "proofs/$name/Answers.antt" ] || mode=.bare
+done
+[ ! "$mode" ] || ! cmp -s src/lib.rt "$low/src/lib.rt" || mode=.unchanged
+echo "${only:-all}$mode" >>"$ROOM/log"
+answer=$ROOM/answers/${only:-all}$mode
 [ -e "$answer" ] || answer=$ROOM/answers/any
 tail -n +2 "$answer"
 eval "$(head -n 1 "$answer")"
@@ -149,13 +156,56 @@ COPIES: list[tuple[str, dict[str, list[str]], dict[str, Answer], str, list[str]]
 ]
 
 
+def opens(name: str, *goals: str, why: str = "") -> Answer:
+    """The prover's answer on a function of which these goals are left open, after a line that says why."""
+    listed = ", ".join(f"`{it}`" for it in goals)
+    return ("exit 1", f"{why}fn low::{name}: no proof: expected answers in ./proofs/{name}/Answers.antt; `search` did not prove {listed}\nonly=1 proved=0\n")
+
+
+def refuses(why: str, name: str = "next") -> Answer:
+    """The prover's answer on a function of which an answer is refused for this."""
+    return ("exit 1", f"./proofs/{name}/Answers.antt:1:5: error: `returns`: {why}\nfn low::{name}: not proved\nonly=1 proved=0\n")
+
+
+MISMATCH, LACKS = "the answer has another type", "`goal.returns`: module `Goals` has no `returns` that can be named from here"
+FAILS = "`omega`: the goal does not follow from what it read. All of that holds, and the goal fails, at `n` = 3"
+ONE_OPEN, TWO_OPEN, NEW_OPEN = opens("next", "returns"), opens("next", "returns", "sum-range"), opens("next", "returns-in-Some")
+REST = {"next.unchanged": ONE_OPEN, "all": PROVED, "all.bare": ("exit 0", REFUSES.format("half") + "logic=not-proved\n")}
+OWN = [*NEXT, "file: proofs/next/Answers.antt", "old: returns c = arith", "new: returns c = more", "function: next"]
+MEANS, FORMS = "by kind: meaning 1, form 0", "by kind: meaning 0, form 1"
+LOOKED = ["next", "next.bare", "next.unchanged"]
+CALLING = ("exit 1", f"{ONE_OPEN[1].splitlines()[0]}\n{CALLS}only=2 proved=0\n")
+# Edits of a function with Answers, with the prover's answers, what must be counted and printed, and the functions that it must be asked for.
+ANSWERED: list[tuple[str, dict[str, list[str]], dict[str, Answer], str, str, list[str]]] = [
+    ("another open goal", {"one": NEXT}, {"next": refuses(MISMATCH), "next.bare": TWO_OPEN}, GOOD, MEANS, LOOKED),
+    ("the same open goal", {"one": NEXT}, {"next": refuses(MISMATCH), "next.bare": ONE_OPEN}, GOOD, FORMS, LOOKED),
+    ("fewer open goals", {"one": NEXT}, {"next": refuses(MISMATCH), "next.bare": ONE_OPEN, "next.unchanged": TWO_OPEN}, GOOD, FORMS, LOOKED),
+    ("a goal that is gone", {"one": NEXT}, {"next": refuses(LACKS), "next.bare": NEW_OPEN}, GOOD, FORMS, LOOKED),
+    ("numbers at which a goal fails", {"one": NEXT}, {"next": refuses(FAILS), "next.bare": ONE_OPEN}, GOOD, MEANS, LOOKED),
+    ("an unchanged body that needs no Answers", {"one": NEXT}, {"next": refuses(MISMATCH), "next.bare": ONE_OPEN, "next.unchanged": PROVED}, GOOD, MEANS, LOOKED),
+    ("a proof without Answers", {"one": NEXT}, {"next": refuses(LACKS), "next.bare": PROVED}, BAD, "NOT REFUSED: it is proved without its Answers", ["all.bare", "next", "next.bare", "next.bare"]),
+    ("a crate that is refused without Answers", {"one": NEXT}, {"next": refuses(LACKS), "next.bare": PROVED, "all.bare": ("exit 1", REFUSES.format("half") + "logic=not-proved\n")},
+     GOOD, FORMS, ["all.bare", "next", "next.bare", "next.bare"]),
+    ("a prover that breaks off without Answers", {"one": NEXT}, {"next": refuses(MISMATCH), "next.bare": ("exit 101", TWO_OPEN[1])}, GOOD, FORMS, ["next", "next.bare"]),
+    ("a proof with Answers", {"one": NEXT}, {"next": PROVED, "next.bare": TWO_OPEN}, BAD, "NOT REFUSED", ["all", "next", "next", "next.bare", "next.unchanged"]),
+    ("Answers of its own", {"one": OWN}, {"next": ONE_OPEN}, GOOD, MEANS, ["next"]),
+    ("an answer of its own that is refused", {"one": OWN}, {"next": refuses(MISMATCH)}, GOOD, FORMS, ["next"]),
+    ("a function without Answers", {"one": LAST}, alone("last", True), GOOD, MEANS, ["last"]),
+    ("a function with Answers beside one without", TWO, {"last+next": of_copy("next", "last"), "next": refuses(MISMATCH), "next.bare": ONE_OPEN}, "2 passed, 0 failed", "by kind: meaning 1, form 1", ["last+next", *LOOKED[1:]]),
+    ("a function with Answers that calls another", TWO, {"last+next": of_copy("next", "last"), "last+next.bare": CALLING, "last.bare": opens("last", "returns"), "last+next.unchanged": CALLING,
+     "last.unchanged": PROVED}, "2 passed, 0 failed", "by kind: meaning 1, form 1", ["last+next", "last+next.bare", "last.bare", "last+next.unchanged", "last.unchanged"]),
+    ("two of one function with Answers", {"one": NEXT, "two": [*NEXT[:2], "new:     n + 3"]}, {"next": refuses(FAILS), "next.bare": ONE_OPEN}, "2 passed, 0 failed", "meaning 2, form 0",
+     ["next", "next", "next.bare", "next.bare", "next.unchanged"]),
+]
+
+
 class Tree:
     """A tree of two crates, and a toolchain with the stand-in for the prover."""
 
     def __init__(self, room: str) -> None:
         self.room, self.top = room, f"{room}/tree"
         shutil.copytree(f"{TOP}/build", f"{self.top}/build")
-        for file in ("__init__.py", "try_edits.py", "wrong_bodies.py", "rattle_sources.py"):
+        for file in ("__init__.py", "try_edits.py", "edit_forms.py", "wrong_bodies.py", "rattle_sources.py"):
             os.makedirs(f"{self.top}/tests", exist_ok=True)
             shutil.copy(f"{TOP}/tests/{file}", f"{self.top}/tests/{file}")
         write(f"{self.top}/crates.txt", "below:\nlow: below\n")
@@ -167,6 +217,11 @@ class Tree:
         write(f"{room}/kit/bin/rt", "exit 2\n")
         write(f"{room}/kit/KIT-ID", "a kit\n")
         self.env = {**os.environ, "ROOM": room, "XDG_CACHE_HOME": f"{room}/cache", "PATH": f"{room}/kit/bin:{os.environ['PATH']}"}
+
+    def has_answers(self, *functions: str) -> None:
+        """Gives functions Answers."""
+        for name in functions:
+            write(f"{self.top}/crates/low/proofs/{name}/Answers.antt", "returns c = arith\n")
 
     def tries(self, edits: dict[str, list[str]], answers: dict[str, Answer], *words: str) -> tuple[str, str, list[str]]:
         """What is printed and counted of edits with these answers, and what the prover was asked for."""
@@ -202,6 +257,24 @@ def answers_together(room: str, names: list[str]) -> Iterator[Result]:
         yield f"{what}: {counted} by asking for {asked}; it was {last} by {log}, {said}", last == counted and sorted(log) == sorted(asked)
         _, again, _ = tree.tries(edits, {})
         yield f"{what}: those are kept, {counted}; they were {again}", again == counted
+
+
+def answers_without(room: str, names: list[str]) -> Iterator[Result]:
+    """What becomes of edits of a function with Answers, and that what was seen of them is kept."""
+    for number, (what, edits, answers, counted, printed, asked) in enumerate(ANSWERED):
+        if names and "forms" not in names and not any(it in what for it in names):
+            continue
+        tree = Tree(f"{room}/form{number}")
+        tree.has_answers("next", *["last"] * ("last.bare" in answers))
+        said, last, log = tree.tries(edits, {**REST, **answers})
+        yield f"{what}: {counted}, {printed}, by asking for {asked}; it was {last} by {log}, {said}", last == counted and printed in said and sorted(log) == sorted(asked)
+        if counted.endswith(" 0 failed") and "breaks off" not in what:
+            again, last, log = tree.tries(edits, {})
+            yield f"{what}: it is kept; it was {last} by {log}, {again}", last == counted and not log and (FORMS != printed or "FORM: " in again)
+            append(f"{tree.top}/tests/edit_forms.py", "# changed\n")
+            _, last, log = tree.tries(edits, {**REST, **answers})
+            anew = LOOKED if "last+next" in asked and "last.bare" not in asked else [it for it in asked if it != "last"]
+            yield f"{what}: it is looked at again by another judge, by {anew}; it was {log}", last == counted and sorted(log) == sorted(anew)
 
 
 # What a refusal rests on: the crate's own files and those of the crate below it, of any depth, the list of crates, the toolchain, and what judges.
@@ -244,6 +317,7 @@ def own_edits() -> Iterator[Result]:
 
 def main(names: list[str]) -> int:
     found = [*results(lambda room: answers_alone(room, names)), *results(lambda room: answers_together(room, names))]
+    found += results(lambda room: answers_without(room, names))
     found += results(kept_refusals) if not names or "kept" in names else []
     found += [] if names else own_edits()
     return report("check_try_edits", found)

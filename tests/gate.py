@@ -194,6 +194,14 @@ def miscounted(is_quick: bool) -> int:
     return len(wrong)
 
 
+def wrong_bodies() -> str:
+    """How many wrong bodies are refused for what they mean, and how many for their form alone, where they were tried."""
+    kinds = Part.found.get("tests/try_edits.py --gate") or {}
+    if "form" not in kinds:
+        return ""
+    return f"gate: {kinds['meaning']} wrong bodies are refused for what they mean, {kinds['form']} for their form alone\n"
+
+
 def run(groups: list[list[Words]]) -> list[int]:
     """Runs the groups of parts, and returns how much passed and failed."""
     begun, ran = time.monotonic(), list[tuple[int, int]]()
@@ -214,7 +222,7 @@ def main(words: list[str]) -> int:
     seconds = time.monotonic() - begun
     if not is_quick:
         print(spent.table())
-    print("".join(Part.failures), end="")
+    print(wrong_bodies(), *Part.failures, sep="", end="")
     failed += miscounted(is_quick)
     print(f"{seconds:.0f} seconds on {len(os.sched_getaffinity(0))} processors")
     if not failed and not is_quick:

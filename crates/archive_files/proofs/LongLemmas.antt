@@ -4,7 +4,7 @@ use Rattle.os8_dir.specs.declared.entries.DirEntry.{DirEntry}
 use Rattle.os8_dir.specs.declared.entries.DirEntry.TheVariants.{File, Empty}
 use Rattle.os8_dir.specs.Entries.{DirectoryState, IsTidy}
 use Rattle.os8_dir.specs.Found.{files_at, free_blocks}
-use Rattle.script8.specs.Replies.{free_line}
+use Rattle.refusals.specs.Listed.{free_line}
 use Rattle.archive_files.specs.LongListing.{long_line, lines_of_files, long_lines}
 use Rattle.archive_files.specs.LongSteps.{lines_of_entries}
 

@@ -2,8 +2,8 @@
 use Rattle.std.proofs.Common.{◌≡◌, ◌∙◌, ℕ, Some, List, [], ◌∷◌, ◌++◌, decimal, refl, sym, ap}
 use Rattle.os8_dir.specs.Names.{parsed_name}
 use Rattle.name_spelling.specs.Laws.{PlainAreAsTyped}
-use Rattle.script8.specs.Replies.{file_lines}
-use Rattle.script8.specs.Shown.{name_text}
+use Rattle.refusals.specs.Listed.{file_lines}
+use Rattle.refusals.specs.Shown.{name_text}
 use Rattle.archive_files.specs.AskLaws.{ArePlain}
 use Rattle.archive_files.specs.Listing.{listed_lines}
 

@@ -11,7 +11,7 @@ use Rattle.archive_files.specs.declared.faults.ArchiveFault.{ArchiveFault}
 use Rattle.archive_files.specs.Asking.{Target, AtBlock, asked_name}
 use Rattle.archive_files.specs.Getting.{Gets}
 use Rattle.archive_files.specs.Listing.{listed_lines}
-use Rattle.script8.specs.Replies.{file_lines}
+use Rattle.refusals.specs.Listed.{file_lines}
 
 -- what has one name is got alike however it is asked for: by its first block just as by a text that spells its name
 abbrev pub OneNameIsGotAlike : Type 0

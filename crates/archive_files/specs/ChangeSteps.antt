@@ -11,14 +11,14 @@ use Rattle.os8_files.specs.Failed.{lowest_or}
 use Rattle.os8_files.specs.Renames.{HasRenamed, entries_of}
 use Rattle.os8_dir.specs.declared.file_faults.FileFault.{FileFault}
 use Rattle.os8_dir.specs.declared.file_faults.FileFault.TheVariants as file
-use Rattle.script8.specs.declared.faults.SessionFault.TheVariants.{Memory}
+use Rattle.refusals.specs.declared.faults.SessionFault.TheVariants.{Memory}
 use Rattle.archive_files.specs.declared.faults.ArchiveFault.TheVariants.{Refused}
 use Rattle.archive_files.specs.declared.faults.RenameFault.{RenameFault}
 use Rattle.archive_files.specs.declared.faults.RenameFault.TheVariants.{Exists}
 use Rattle.archive_files.specs.declared.faults.RenameFault.TheVariants as rename
 use Rattle.archive_files.specs.Deleting.{AreDeleted, IsRefusedAt, IsRefusedName}
 use Rattle.archive_files.specs.Squeezing.{AreMoved}
-use Rattle.script8.specs.declared.faults.SessionFault.TheVariants.{File}
+use Rattle.refusals.specs.declared.faults.SessionFault.TheVariants.{File}
 use Rattle.os8_dir.specs.Names.{with_end_zeros}
 use Rattle.os8_dir.specs.Entries.{IsNamed}
 use Rattle.os8_dir.specs.Files.{FileData}

@@ -4,7 +4,7 @@ use Rattle.os8_dir.specs.Names.{with_end_zeros}
 use Rattle.name_spelling.specs.Reading.{typed_name}
 use Rattle.os8_dir.specs.Files.{FileData}
 use Rattle.os8_dir.specs.declared.file_faults.FileFault.TheVariants.{BadName, NoRoom, DirectoryFull}
-use Rattle.script8.specs.declared.faults.SessionFault.TheVariants.{File}
+use Rattle.refusals.specs.declared.faults.SessionFault.TheVariants.{File}
 use Rattle.archive_files.specs.declared.faults.ArchiveFault.{ArchiveFault}
 use Rattle.archive_files.specs.declared.faults.ArchiveFault.TheVariants.{Refused}
 use Rattle.archive_files.specs.declared.faults.CopyFault.{CopyFault}

@@ -12,7 +12,7 @@ use Rattle.os8_dir.specs.declared.faults.DirFault.{DirFault}
 use Rattle.os8_dir.specs.declared.entries.DirEntry.{DirEntry}
 use Rattle.os8_dir.specs.declared.entries.DirEntry.TheVariants.{File, Empty}
 use Rattle.name_spelling.specs.Spelling.{text_of}
-use Rattle.script8.specs.declared.faults.SessionFault.TheVariants.{Memory}
+use Rattle.refusals.specs.declared.faults.SessionFault.TheVariants.{Memory}
 use Rattle.char_pack.specs.declared.forms.GetForm.{GetForm}
 use Rattle.char_pack.specs.declared.forms.GetForm.TheVariants as get_as
 use Rattle.char_pack.specs.declared.forms.PutForm.{PutForm}

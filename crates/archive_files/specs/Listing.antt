@@ -3,7 +3,7 @@ use Rattle.std.specs.Prelude.{◌≡◌, ℕ, ◌+◌, decimal, Result, Ok, Err,
 use Rattle.std.specs.Global.{Vec}
 use Rattle.os8_dir.specs.Files.{files_of, capacity_of}
 use Rattle.os8_files.specs.Service.{lengths_of, blocks_in_use}
-use Rattle.script8.specs.Replies.{free_line}
+use Rattle.refusals.specs.Listed.{free_line}
 use Rattle.name_spelling.specs.Spelling.{text_of}
 use Rattle.archive_files.specs.declared.faults.ArchiveFault.{ArchiveFault}
 use Rattle.archive_files.specs.Opening.{IsOpened, IsUnopened}

@@ -6,7 +6,7 @@ use Rattle.volume_image.specs.Image.{IsImageOf}
 use Rattle.os8_dir.specs.Entries.{DirectoryState}
 use Rattle.os8_dir.specs.Found.{FilePlace, files_at, free_blocks}
 use Rattle.os8_dir.specs.Reading.{directory_of}
-use Rattle.script8.specs.Replies.{free_line}
+use Rattle.refusals.specs.Listed.{free_line}
 use Rattle.name_spelling.specs.Spelling.{text_of}
 use Rattle.archive_files.specs.declared.faults.ArchiveFault.{ArchiveFault}
 use Rattle.archive_files.specs.Opening.{IsUnopened}

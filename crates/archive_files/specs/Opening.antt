@@ -3,7 +3,7 @@ use Rattle.std.specs.Prelude.{◌≡◌, ◌≢◌, ℕ, List, Err}
 use Rattle.volume_image.specs.Image.{IsImage, IsImageOf, ReadsImage}
 use Rattle.volume_image.specs.declared.faults.ImageFault.TheVariants as image
 use Rattle.os8_dir.specs.Reading.{Sound, HasFault}
-use Rattle.script8.specs.declared.faults.SessionFault.TheVariants.{Memory}
+use Rattle.refusals.specs.declared.faults.SessionFault.TheVariants.{Memory}
 use Rattle.archive_files.specs.declared.faults.ArchiveFault.{ArchiveFault}
 use Rattle.archive_files.specs.declared.faults.ArchiveFault.TheVariants.{Image, Directory, Refused}
 

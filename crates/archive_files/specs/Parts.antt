@@ -14,9 +14,9 @@ use Rattle.os8_files.specs.Mounted.{MountState}
 use Rattle.os8_files.specs.Puts.{HasPutWith, PutsFileWith, blocks_filled}
 use Rattle.os8_dir.specs.declared.file_faults.FileFault.{FileFault}
 use Rattle.os8_dir.specs.declared.file_faults.FileFault.TheVariants as file
-use Rattle.script8.specs.declared.faults.SessionFault.{SessionFault}
-use Rattle.script8.specs.declared.faults.SessionFault.TheVariants.{File, Memory}
-use Rattle.script8.specs.declared.faults.SessionFault.TheVariants as session
+use Rattle.refusals.specs.declared.faults.SessionFault.{SessionFault}
+use Rattle.refusals.specs.declared.faults.SessionFault.TheVariants.{File, Memory}
+use Rattle.refusals.specs.declared.faults.SessionFault.TheVariants as session
 use Rattle.archive_files.specs.declared.putting.NewImage.{NewImage}
 use Rattle.archive_files.specs.Getting.{IsGiven}
 use Rattle.archive_files.specs.Putting.{put_words, information_for, IsFit, IsUnfit, IsFull}

@@ -11,8 +11,8 @@ use Rattle.os8_files.specs.Calls.{IsLargest, IsOver, IsReady}
 use Rattle.os8_files.specs.Puts.{HasPutWith, HasNoEntryWith, blocks_filled, file_with}
 use Rattle.os8_files.specs.Service.{information_of}
 use Rattle.os8_dir.specs.declared.file_faults.FileFault.TheVariants.{BadName, NoRoom, DirectoryFull, NothingWritten}
-use Rattle.script8.specs.declared.faults.SessionFault.{SessionFault}
-use Rattle.script8.specs.declared.faults.SessionFault.TheVariants.{File, BadText}
+use Rattle.refusals.specs.declared.faults.SessionFault.{SessionFault}
+use Rattle.refusals.specs.declared.faults.SessionFault.TheVariants.{File, BadText}
 use Rattle.archive_files.specs.declared.faults.ArchiveFault.{ArchiveFault}
 use Rattle.archive_files.specs.declared.faults.ArchiveFault.TheVariants.{Image, Directory, Refused}
 use Rattle.char_pack.specs.declared.forms.PutForm.{PutForm}

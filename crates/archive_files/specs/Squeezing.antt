@@ -7,8 +7,8 @@ use Rattle.os8_files.specs.Mounted.{MountState}
 use Rattle.os8_files.specs.Calls.{HasMoved, entries_moved, info_of}
 use Rattle.os8_files.specs.Failed.{lowest_or}
 use Rattle.os8_dir.specs.declared.file_faults.FileFault.TheVariants.{DirectoryFull}
-use Rattle.script8.specs.declared.faults.SessionFault.{SessionFault}
-use Rattle.script8.specs.declared.faults.SessionFault.TheVariants.{File}
+use Rattle.refusals.specs.declared.faults.SessionFault.{SessionFault}
+use Rattle.refusals.specs.declared.faults.SessionFault.TheVariants.{File}
 use Rattle.archive_files.specs.declared.faults.ArchiveFault.{ArchiveFault}
 use Rattle.archive_files.specs.declared.faults.ArchiveFault.TheVariants.{Image, Directory, Refused}
 use Rattle.archive_files.specs.declared.squeezing.SqueezedImage.{SqueezedImage}

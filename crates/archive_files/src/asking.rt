@@ -12,7 +12,7 @@ use crate::opening::open_image;
 use name_spelling::typed_name;
 use os8_dir::{DirEntry, Directory, Name};
 use os8_files::{FileFault, FileService};
-use script8::SessionFault;
+use refusals::SessionFault;
 use std::alloc::Global;
 use volume_image::MemoryVolume;
 

@@ -15,7 +15,7 @@ use name_spelling::typed_name;
 use os8_dir::Name;
 use os8_files::FileFault;
 use os8_files::laws::whole_files;
-use script8::SessionFault;
+use refusals::SessionFault;
 use std::alloc::Global;
 use word12::Word;
 

@@ -11,7 +11,7 @@ use crate::opening::{image_of, open_image};
 use crate::{ArchiveFault, Asked, DeleteFault};
 use os8_dir::{Directory, Name};
 use os8_files::{FileFault, FileService};
-use script8::SessionFault;
+use refusals::SessionFault;
 use std::alloc::{AllocError, Global};
 use volume_image::MemoryVolume;
 

@@ -2,11 +2,11 @@ ghost use Rattle.std.specs.Prelude.{◌≡◌};
 ghost use Rattle.archive_files.specs.declared.faults.ArchiveFault.TheVariants.{Refused};
 ghost use Rattle.archive_files.specs.declared.faults.DeleteFault.TheVariants as delete;
 ghost use Rattle.archive_files.specs.declared.faults.RenameFault.TheVariants as rename;
-ghost use Rattle.script8.specs.declared.faults.SessionFault.TheVariants.{Memory};
+ghost use Rattle.refusals.specs.declared.faults.SessionFault.TheVariants.{Memory};
 
 use os8_dir::DirFault;
 use os8_files::FileFault;
-use script8::SessionFault;
+use refusals::SessionFault;
 use std::alloc::AllocError;
 use thiserror::Error;
 use volume_image::ImageFault;

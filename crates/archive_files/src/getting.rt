@@ -13,7 +13,7 @@ use crate::{ArchiveFault, Asked, GetForm};
 use os8_dir::Name;
 use os8_files::laws::whole_files;
 use os8_files::{FileFault, FileService};
-use script8::SessionFault;
+use refusals::SessionFault;
 use std::alloc::Global;
 use volume_image::{BlockStore, MemoryVolume};
 use word12::{BLOCK, Word};

@@ -7,7 +7,7 @@ use bin_tape::laws::{longer_tape, no_fault};
 use char_pack::laws::{packed_bytes, stored_text};
 use name_spelling::laws::plain_names;
 use os8_dir::laws::{file_information, file_renamed, files_found, sound_directory};
-use script8::laws::name_as_typed;
+use refusals::laws::name_as_typed;
 use volume_image::image_round_trip;
 
 /// A law: what was put is got again, or memory is wanted. The bytes have zeros after them to the end of their last block. The tape is the one that

@@ -1,5 +1,5 @@
 ghost use Rattle.std.specs.Prelude.{◌≡◌, ◌++◌, OnOk};
-ghost use Rattle.script8.specs.Replies.{free_line};
+ghost use Rattle.refusals.specs.Listed.{free_line};
 ghost use Rattle.archive_files.specs.Listing.{ListsFiles, listed_line, listed_lines};
 
 use crate::ArchiveFault;
@@ -7,8 +7,8 @@ use crate::opening::open_image;
 use name_spelling::put_spelled;
 use os8_dir::Name;
 use os8_files::FileFault;
-use script8::SessionFault;
-use script8::text_lines::{TextLine, put, put_number};
+use refusals::SessionFault;
+use refusals::text_lines::{TextLine, put, put_number};
 use std::alloc::{AllocError, Global};
 
 /// The lines of `DIRECT` for the volume of an image: the files in name order with their lengths in blocks, and the free blocks. Each name

@@ -10,8 +10,8 @@ use crate::listing::put_free;
 use crate::opening::volume_of;
 use name_spelling::put_spelled;
 use os8_dir::{DirEntry, DirFault, Directory, Name};
-use script8::SessionFault;
-use script8::text_lines::{TextLine, put, put_number};
+use refusals::SessionFault;
+use refusals::text_lines::{TextLine, put, put_number};
 use std::alloc::{AllocError, Global};
 use word12::Word;
 

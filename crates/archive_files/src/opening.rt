@@ -8,7 +8,7 @@ ghost use Rattle.archive_files.specs.Putting.{IsMounted};
 use crate::ArchiveFault;
 use os8_dir::{DirFault, Directory};
 use os8_files::FileService;
-use script8::SessionFault;
+use refusals::SessionFault;
 use std::alloc::{AllocError, Global};
 use volume_image::{ImageFault, MemoryVolume};
 

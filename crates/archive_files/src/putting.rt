@@ -12,7 +12,7 @@ use char_pack::{is_storable, pack_blocks};
 use name_spelling::typed_name;
 use os8_dir::Name;
 use os8_files::{FileFault, FileService};
-use script8::SessionFault;
+use refusals::SessionFault;
 use std::alloc::Global;
 use volume_image::MemoryVolume;
 use word12::{BLOCK, Word};

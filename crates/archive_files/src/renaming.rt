@@ -6,7 +6,7 @@ ghost use Rattle.archive_files.specs.Renaming.{RenamesFile};
 ghost use Rattle.archive_files.specs.ChangeSteps.{GivesName, NamesFile};
 ghost use Rattle.archive_files.specs.declared.faults.ArchiveFault.TheVariants.{Refused};
 ghost use Rattle.archive_files.specs.declared.faults.RenameFault.TheVariants.{Archive};
-ghost use Rattle.script8.specs.declared.faults.SessionFault.TheVariants.{File};
+ghost use Rattle.refusals.specs.declared.faults.SessionFault.TheVariants.{File};
 
 use crate::asking::name_of;
 use crate::opening::{image_of, open_image};
@@ -14,7 +14,7 @@ use crate::{ArchiveFault, Asked, RenameFault};
 use name_spelling::typed_name;
 use os8_dir::Name;
 use os8_files::{FileFault, FileService};
-use script8::SessionFault;
+use refusals::SessionFault;
 use std::alloc::Global;
 use volume_image::MemoryVolume;
 

@@ -6,7 +6,7 @@ ghost use Rattle.archive_files.specs.ChangeSteps.{SqueezesAll};
 use crate::ArchiveFault;
 use crate::opening::{image_of, mount_image};
 use os8_files::{FileFault, FileService, Squeezed};
-use script8::SessionFault;
+use refusals::SessionFault;
 use std::alloc::Global;
 use volume_image::MemoryVolume;
 

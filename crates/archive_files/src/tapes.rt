@@ -7,7 +7,7 @@ ghost use Rattle.char_pack.specs.declared.forms.GetForm.TheVariants as form;
 use crate::frames::frames_of;
 use bin_tape::laws::no_fault;
 use bin_tape::{Tape, TapeFault, TapeReader};
-use script8::SessionFault;
+use refusals::SessionFault;
 use std::alloc::Global;
 use word12::Word;
 

@@ -17,8 +17,8 @@ use Rattle.os8_files.specs.Failed.{with_list}
 use Rattle.os8_files.specs.Puts.{HasPutWith, blocks_filled}
 use Rattle.os8_dir.specs.declared.file_faults.FileFault.TheVariants.{NotFound, NoRoom, DirectoryFull, Busy, BadName, TooLong, TentativeOpen, Device, Stopped, NothingWritten}
 use Rattle.os8_dir.specs.declared.file_faults.FileFault.TheVariants as file
-use Rattle.script8.specs.declared.faults.SessionFault.{SessionFault}
-use Rattle.script8.specs.declared.faults.SessionFault.TheVariants.{BadLine, NoJob, TooManyJobs, File, Asm, Tape, BadText, Reader, Writer, Memory, TooManyBreaks}
+use Rattle.refusals.specs.declared.faults.SessionFault.{SessionFault}
+use Rattle.refusals.specs.declared.faults.SessionFault.TheVariants.{BadLine, NoJob, TooManyJobs, File, Asm, Tape, BadText, Reader, Writer, Memory, TooManyBreaks}
 use Rattle.archive_files.specs.Putting.{information_for}
 use Rattle.archive_many.specs.Putting.{ArePut, HasPutFile, IsRefusedAt, IsRefusedFile, KeepsUncovered, blocks_in, info_or, words_in}
 use Rattle.archive_many.specs.PutSteps.{IsRefusedAfter, PutsFile, PutsFiles}

@@ -4,7 +4,7 @@ use Rattle.std.specs.Global.{Vec}
 use Rattle.os8_dir.specs.Files.{files_of, capacity_of}
 use Rattle.name_spelling.specs.Patterns.{is_chosen_by}
 use Rattle.os8_files.specs.Service.{lengths_of, blocks_in_use}
-use Rattle.script8.specs.Replies.{free_line}
+use Rattle.refusals.specs.Listed.{free_line}
 use Rattle.archive_files.specs.declared.faults.ArchiveFault.{ArchiveFault}
 use Rattle.archive_files.specs.Listing.{listed_line}
 use Rattle.archive_files.specs.Opening.{IsOpened, IsUnopened}

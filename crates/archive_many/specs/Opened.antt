@@ -14,9 +14,9 @@ use Rattle.os8_dir.specs.declared.faults.DirFault.{DirFault}
 use Rattle.os8_files.specs.Calls.{info_of}
 use Rattle.os8_files.specs.Failed.{extent_or}
 use Rattle.os8_dir.specs.declared.file_faults.FileFault.TheVariants.{NotFound}
-use Rattle.script8.specs.declared.faults.SessionFault.{SessionFault}
-use Rattle.script8.specs.declared.faults.SessionFault.TheVariants.{File, Memory}
-use Rattle.script8.specs.declared.faults.SessionFault.TheVariants as session
+use Rattle.refusals.specs.declared.faults.SessionFault.{SessionFault}
+use Rattle.refusals.specs.declared.faults.SessionFault.TheVariants.{File, Memory}
+use Rattle.refusals.specs.declared.faults.SessionFault.TheVariants as session
 use Rattle.archive_files.specs.declared.faults.ArchiveFault.{ArchiveFault}
 use Rattle.archive_files.specs.Opening.{IsOpened, IsUnopened}
 use Rattle.archive_files.specs.Getting.{IsGiven}

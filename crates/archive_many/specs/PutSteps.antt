@@ -2,8 +2,8 @@
 use Rattle.std.specs.Prelude.{◌≡◌, ℕ, ◌+◌, ◌<◌, Option, Result, Ok, Err, List, ◌++◌, length, map}
 use Rattle.os8_files.specs.Mounted.{MountState}
 use Rattle.os8_dir.specs.declared.file_faults.FileFault.TheVariants.{Device}
-use Rattle.script8.specs.declared.faults.SessionFault.{SessionFault}
-use Rattle.script8.specs.declared.faults.SessionFault.TheVariants.{File, Memory}
+use Rattle.refusals.specs.declared.faults.SessionFault.{SessionFault}
+use Rattle.refusals.specs.declared.faults.SessionFault.TheVariants.{File, Memory}
 use Rattle.archive_many.specs.Putting.{ArePut, HasPutFile, IsRefusedAt, IsRefusedFile, blocks_in}
 use Rattle.archive_many.specs.declared.putting.NewFile.{NewFile}
 

@@ -7,8 +7,8 @@ use Rattle.os8_dir.specs.Reading.{block, directory_of}
 use Rattle.os8_files.specs.Mounted.{MountState}
 use Rattle.os8_files.specs.Puts.{HasPutWith, blocks_filled}
 use Rattle.os8_dir.specs.declared.file_faults.FileFault.TheVariants.{BadName, NoRoom, DirectoryFull, NothingWritten}
-use Rattle.script8.specs.declared.faults.SessionFault.{SessionFault}
-use Rattle.script8.specs.declared.faults.SessionFault.TheVariants.{File, BadText}
+use Rattle.refusals.specs.declared.faults.SessionFault.{SessionFault}
+use Rattle.refusals.specs.declared.faults.SessionFault.TheVariants.{File, BadText}
 use Rattle.archive_files.specs.Opening.{IsUnopened}
 use Rattle.archive_files.specs.Putting.{IsMounted, IsFit, IsUnfit, IsFull, put_words, information_for}
 use Rattle.archive_many.specs.declared.putting.NewFile.{NewFile}

@@ -7,8 +7,8 @@ use Rattle.char_pack.specs.Packing.{frames}
 use Rattle.char_pack.specs.declared.forms.GetForm.{GetForm}
 use Rattle.char_pack.specs.declared.forms.GetForm.TheVariants.{Tape}
 use Rattle.os8_dir.specs.Files.{run}
-use Rattle.script8.specs.declared.faults.SessionFault.{SessionFault}
-use Rattle.script8.specs.declared.faults.SessionFault.TheVariants as session
+use Rattle.refusals.specs.declared.faults.SessionFault.{SessionFault}
+use Rattle.refusals.specs.declared.faults.SessionFault.TheVariants as session
 use Rattle.archive_files.specs.declared.faults.ArchiveFault.TheVariants.{Image, Directory, Refused}
 use Rattle.archive_files.specs.Opening.{IsUnopened}
 use Rattle.archive_files.specs.Getting.{IsGiven}

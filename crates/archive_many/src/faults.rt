@@ -1,6 +1,6 @@
 ghost use Rattle.std.specs.Prelude.{◌≡◌};
 ghost use Rattle.archive_files.specs.declared.faults.ArchiveFault.TheVariants.{Refused};
-ghost use Rattle.script8.specs.declared.faults.SessionFault.TheVariants.{Memory};
+ghost use Rattle.refusals.specs.declared.faults.SessionFault.TheVariants.{Memory};
 ghost use Rattle.archive_many.specs.declared.faults.BlocksFault.TheVariants as blocks;
 ghost use Rattle.archive_many.specs.declared.faults.ChoiceFault.TheVariants as choice;
 ghost use Rattle.archive_many.specs.declared.faults.CopyAllFault.TheVariants as copying;
@@ -8,7 +8,7 @@ ghost use Rattle.archive_many.specs.declared.faults.ManyFault.TheVariants as man
 
 use crate::VolumeFile;
 use archive_files::{ArchiveFault, CopyFault};
-use script8::SessionFault;
+use refusals::SessionFault;
 use std::alloc::AllocError;
 use thiserror::Error;
 

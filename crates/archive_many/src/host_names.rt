@@ -8,7 +8,7 @@ use arrayvec::ArrayVec;
 use name_spelling::laws::{safe_names, short_names};
 use name_spelling::{put_spelled, typed_name};
 use os8_dir::Name;
-use script8::text_lines::TextLine;
+use refusals::text_lines::TextLine;
 use std::alloc::{AllocError, Global};
 
 /// The most bytes of a typed name.

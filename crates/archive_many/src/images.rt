@@ -3,7 +3,7 @@ ghost use Rattle.volume_image.specs.Image.{IsImageOf};
 ghost use Rattle.archive_many.specs.Steps.{IsNoVolume};
 
 use archive_files::ArchiveFault;
-use script8::SessionFault;
+use refusals::SessionFault;
 use std::alloc::Global;
 use volume_image::{ImageFault, MemoryVolume};
 

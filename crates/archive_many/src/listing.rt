@@ -8,7 +8,7 @@ use archive_files::parts::{open_image, put_file, put_free};
 use name_spelling::is_chosen_by;
 use os8_dir::Name;
 use os8_files::FileFault;
-use script8::SessionFault;
+use refusals::SessionFault;
 use std::alloc::{AllocError, Global};
 
 /// The lines that `archive_files::list` has of the files whose names are like one of some words, and that of the free blocks of the whole

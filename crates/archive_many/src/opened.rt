@@ -13,7 +13,7 @@ use archive_files::{ArchiveFault, GetForm};
 use os8_dir::laws::{files_found, files_inside, sound_directory};
 use os8_dir::{DirEntry, DirFault, Directory, Name};
 use os8_files::FileFault;
-use script8::SessionFault;
+use refusals::SessionFault;
 use std::alloc::{AllocError, Global};
 use std::marker::Model;
 use volume_image::{BlockStore, MemoryVolume};

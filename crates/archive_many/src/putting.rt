@@ -10,7 +10,7 @@ use archive_files::{ArchiveFault, PutForm};
 use os8_dir::Name;
 use os8_dir::laws::{directory_numbers, rooms};
 use os8_files::{FileFault, FileService};
-use script8::SessionFault;
+use refusals::SessionFault;
 use std::alloc::{AllocError, Global};
 use volume_image::MemoryVolume;
 use word12::{BLOCK, Word};

@@ -1,7 +1,7 @@
 -- The lines of what is found in a directory (this project's profile).
 use Rattle.std.specs.Prelude.{ℕ, zero, suc, ◌+◌, ◌&&◌, Bool, false, not, codes, decimal, nat_le, nat_lt, if◌then◌else◌, List, [], ◌∷◌, ◌++◌, length}
 use Rattle.os8_dir.specs.declared.faults.DirFault.{DirFault}
-use Rattle.script8.specs.Faults.{directory_fault_text}
+use Rattle.refusals.specs.Faults.{directory_fault_text}
 use Rattle.name_spelling.specs.Spelling.{text_of}
 use Rattle.archive_survey.specs.declared.parts.Part.{Part}
 use Rattle.archive_survey.specs.declared.parts.Part.TheVariants.{Segment, Fault, File, Empty}

@@ -6,8 +6,8 @@ ghost use Rattle.archive_survey.specs.Lines.{extent_text, fault_line, part_line}
 use crate::Part;
 use name_spelling::put_spelled;
 use os8_dir::DirFault;
-use script8::put_directory_fault;
-use script8::text_lines::{TextLine, put, put_number};
+use refusals::put_directory_fault;
+use refusals::text_lines::{TextLine, put, put_number};
 use std::alloc::AllocError;
 
 /// Appends the line of a fault of a directory.

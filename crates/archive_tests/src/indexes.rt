@@ -1,11 +1,11 @@
 //! A line of an index.
 
 use file_kind::FileKind;
-use index_lines::laws::{one_name, quoted_names};
-use index_lines::{IndexEntry, put_index};
 use os8_dir::Name;
 use std::alloc::{AllocError, Global};
 use std::test::Fail;
+use volume_index::line_laws::{one_name, quoted_names};
+use volume_index::{IndexEntry, put_index};
 use word12::{Cell, Word};
 
 /// Whether the line of a core image on an image of this name is so; the digest is that of no byte.

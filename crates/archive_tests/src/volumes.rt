@@ -3,10 +3,10 @@
 ghost use Rattle.std.specs.Prelude.{◌≤◌};
 
 use os8_dir::Name;
-use rescue::laws::just_these_files;
-use rescue::{KeptFile, Refusal, RescueFault, volume_of_files};
 use std::alloc::{AllocError, Global};
 use std::test::Fail;
+use volume_salvage::rescue_laws::just_these_files;
+use volume_salvage::{KeptFile, Refusal, RescueFault, volume_of_files};
 use word12::{BLOCK, Word};
 
 /// A file of one block, whose words are all the same.

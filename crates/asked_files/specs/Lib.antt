@@ -1,4 +1,4 @@
 pub mod Asking
-pub mod Refusals
+pub mod UnfoundWords
 pub mod Texts
 pub mod Wishing

@@ -5,7 +5,7 @@ use Rattle.char_pack.specs.declared.forms.GetForm.{GetForm}
 use Rattle.char_pack.specs.declared.forms.GetForm.TheVariants as get_as
 use Rattle.char_pack.specs.declared.forms.PutForm.{PutForm}
 use Rattle.char_pack.specs.declared.forms.PutForm.TheVariants as put_as
-use Rattle.script8.specs.declared.faults.SessionFault.TheVariants.{Memory}
+use Rattle.refusals.specs.declared.faults.SessionFault.TheVariants.{Memory}
 use Rattle.archive_many.specs.Extensions.{is_text, AreLists, IsFirstBad}
 use Rattle.archive_many.specs.Naming.{is_named}
 use Rattle.archive_many.specs.declared.opened.VolumeFile.{VolumeFile}

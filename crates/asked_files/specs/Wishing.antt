@@ -1,7 +1,7 @@
 -- Which files of a volume the words of a command choose.
 use Rattle.std.specs.Prelude.{◌≡◌, ℕ, false, Result, Ok, Err, List, []}
 use Rattle.std.specs.Global.{Vec}
-use Rattle.script8.specs.declared.faults.SessionFault.TheVariants.{Memory}
+use Rattle.refusals.specs.declared.faults.SessionFault.TheVariants.{Memory}
 use Rattle.archive_many.specs.Opened.{files_on}
 use Rattle.archive_many.specs.Wishing.{wishes_of}
 use Rattle.archive_many.specs.declared.wishes.Wish.{Wish}

@@ -1,35 +1,12 @@
 //! Which files of a volume names and first blocks mean.
 ghost use Rattle.std.specs.Prelude.{◌≡◌, [], ◌∷◌, ◌++◌, map, OnOk};
-ghost use Rattle.archive_files.specs.Asking.{OfName, AtBlock, target_of};
-ghost use Rattle.asked_files.specs.Asking.{AreNamed, MeansFile, wanted_file};
+ghost use Rattle.archive_files.specs.Asking.{AtBlock, OfName, target_of};
+ghost use Rattle.asked_files.specs.Asking.{AreNamed};
 
 use archive_files::Asked;
 use outcome::Ending;
-use program_tasks::{DeleteForm, FileForm};
+use program_tasks::DeleteForm;
 use std::alloc::{AllocError, Global};
-
-/// The file that is meant by an argument.
-pub fn file_asked(file: FileForm) -> Asked
-    ensures { target_of result ≡ wanted_file file }
-{
-    match file {
-        FileForm::Name(name) => Asked::Name(name),
-        FileForm::At(place) => Asked::At(place),
-    }
-}
-
-/// The file that is meant by an argument, which stays as it is.
-pub fn copy_of_asked(alloc: Global, file: &FileForm) -> Result<Asked, Ending>
-    ensures { MeansFile file.now result }
-{
-    match file {
-        FileForm::Name(name) => {
-            let text = String::from_str(alloc, name.as_str())?;
-            Ok(Asked::Name(text))
-        }
-        FileForm::At(place) => Ok(Asked::At(*place)),
-    }
-}
 
 /// The files of some names, and then those of some first blocks.
 pub fn files_named(alloc: Global, form: &DeleteForm) -> Result<Vec<Asked>, Ending>

@@ -3,11 +3,11 @@
 #![tactic(auto)]
 
 mod asking;
-mod refusals;
 mod texts;
+mod unfound_words;
 mod wishing;
 
-pub use asking::{add_place, copy_of_asked, file_asked, files_named};
-pub use refusals::{put_line, put_refusal, put_word};
+pub use asking::{add_place, files_named};
 pub use texts::{get_form, is_got_noted, note_put, put_form, take_lists};
+pub use unfound_words::{put_line, put_refusal, put_word};
 pub use wishing::{files_of, wishes_on};

@@ -14,7 +14,7 @@ use Rattle.archive_files.specs.Asking.{Target, target_of}
 use Rattle.archive_files.specs.declared.faults.ArchiveFault.{ArchiveFault}
 use Rattle.archive_files.specs.declared.faults.ArchiveFault.TheVariants as archive
 use Rattle.archive_files.specs.declared.putting.NewImage.{NewImage}
-use Rattle.script8.specs.declared.faults.SessionFault.TheVariants.{Memory}
+use Rattle.refusals.specs.declared.faults.SessionFault.TheVariants.{Memory}
 use Rattle.outcome.specs.Endings.{ending_of_archive}
 use Rattle.outcome.specs.declared.contents.Content.{Content}
 use Rattle.outcome.specs.declared.contents.Content.TheVariants.{Image as ForImage, Tape, Listing}
@@ -28,7 +28,7 @@ use Rattle.host_sources.specs.declared.faults.SourceFault.TheVariants as pal3_is
 use Rattle.pal8_places.specs.declared.options.Options.{Options}
 use Rattle.pal8_tape.specs.declared.faults.SourceFault as pal8_fault
 use Rattle.pal8_tape.specs.declared.faults.SourceFault.TheVariants as pal8_is
-use Rattle.pal8_notes.specs.Texts.{notes_text}
+use Rattle.pal8_listing.specs.NotesTexts.{notes_text}
 use Rattle.program_tasks.specs.declared.forms.ImageForm.{ImageForm}
 use Rattle.program_tasks.specs.declared.tasks.AssembleForm.{AssembleForm}
 use Rattle.image_files.specs.Reasons.{TellsUnheld, is_untold}

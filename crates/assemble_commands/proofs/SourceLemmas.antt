@@ -2,7 +2,7 @@
 use Rattle.std.proofs.Common.{ℕ, Option, Ok, Err, List, refl, inl, inr}
 use Rattle.std.specs.Global.{Vec}
 use Rattle.hosts.specs.Event.{Event}
-use Rattle.script8.specs.declared.faults.SessionFault.TheVariants.{Memory}
+use Rattle.refusals.specs.declared.faults.SessionFault.TheVariants.{Memory}
 use Rattle.outcome.specs.declared.endings.Ending.TheVariants.{Fault}
 use Rattle.assemble_commands.specs.Sources.{ReadsSource}
 

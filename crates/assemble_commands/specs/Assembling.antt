@@ -11,11 +11,11 @@ use Rattle.source_listing.specs.declared.listing.ListingForm.{ListingForm}
 use Rattle.source_listing.specs.declared.listing.ListingForm.TheVariants.{Symbols, Cross}
 use Rattle.pal8_places.specs.declared.options.Options.{Options}
 use Rattle.pal8_listing.specs.Listings as pal8_listing
-use Rattle.pal8_notes.specs.Texts.{notes_text}
+use Rattle.pal8_listing.specs.NotesTexts.{notes_text}
 use Rattle.pal8_tape.specs.Answers as pal8
 use Rattle.pal8_tape.specs.declared.faults.SourceFault as pal8_fault
 use Rattle.pal8_tape.specs.declared.faults.SourceFault.TheVariants as pal8_is
-use Rattle.script8.specs.declared.faults.SessionFault.TheVariants.{Memory}
+use Rattle.refusals.specs.declared.faults.SessionFault.TheVariants.{Memory}
 use Rattle.outcome.specs.declared.endings.Ending.{Ending}
 use Rattle.outcome.specs.declared.endings.Ending.TheVariants.{Fault, Failure}
 use Rattle.program_tasks.specs.declared.forms.ImageForm.{ImageForm}

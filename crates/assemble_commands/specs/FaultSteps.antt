@@ -1,7 +1,7 @@
 -- What steps of faults give. No contract of a public function cites this.
 use Rattle.std.specs.Prelude.{◌≡◌, ℕ, Result, Ok, Err, List, map}
 use Rattle.std.specs.Global.{Vec}
-use Rattle.script8.specs.declared.faults.SessionFault.TheVariants.{Memory}
+use Rattle.refusals.specs.declared.faults.SessionFault.TheVariants.{Memory}
 use Rattle.outcome.specs.declared.endings.Ending.{Ending}
 use Rattle.outcome.specs.declared.endings.Ending.TheVariants.{Fault}
 

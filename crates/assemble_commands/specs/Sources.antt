@@ -9,7 +9,7 @@ use Rattle.archive_files.specs.Asking.{Target, OfName, target_of}
 use Rattle.archive_files.specs.Getting.{Gets}
 use Rattle.archive_files.specs.declared.asking.Asked.{Asked}
 use Rattle.archive_files.specs.declared.faults.ArchiveFault.{ArchiveFault}
-use Rattle.script8.specs.declared.faults.SessionFault.TheVariants.{Memory}
+use Rattle.refusals.specs.declared.faults.SessionFault.TheVariants.{Memory}
 use Rattle.program_reports.specs.LineEnds.{with_line_feeds}
 use Rattle.outcome.specs.Notes.{name_text}
 use Rattle.outcome.specs.declared.notes.NameNote.TheVariants.{NoSource}

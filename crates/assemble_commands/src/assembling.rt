@@ -12,11 +12,11 @@ use host_sources::{SourceFault, assemble_sources};
 use hosts::Host;
 use image_files::{Image, look_at, tell_line};
 use outcome::Ending;
-use pal8_notes::notes_text;
+use pal8_listing::notes_text;
 use pal8_places::Options;
 use pal8_tape::{SourceFault as Pal8Fault, tape_of};
 use program_tasks::{AssembleForm, ImageForm};
-use script8::SessionFault;
+use refusals::SessionFault;
 use source_listing::{ListingForm, list_sources};
 use std::alloc::Global;
 

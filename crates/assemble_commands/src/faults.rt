@@ -15,7 +15,7 @@ use host_sources::Fault;
 use outcome::{Ending, NameNote, Note, PlainNote};
 use pal8_places::Options;
 use pal8_tape::sign_text;
-use script8::SessionFault;
+use refusals::SessionFault;
 use source_places::About;
 use std::alloc::{AllocError, Global};
 

@@ -1,7 +1,7 @@
 -- What steps of choosing files do. No contract of a public function cites these.
 use Rattle.std.specs.Prelude.{◌≡◌, ◌⊎◌, List, Option}
 use Rattle.hosts.specs.Event.{Event}
-use Rattle.script8.specs.declared.faults.SessionFault.TheVariants.{File, Memory}
+use Rattle.refusals.specs.declared.faults.SessionFault.TheVariants.{File, Memory}
 use Rattle.os8_dir.specs.declared.file_faults.FileFault.{FileFault}
 use Rattle.archive_files.specs.Asking.{Target}
 use Rattle.archive_many.specs.declared.wishes.Wish.{Wish}

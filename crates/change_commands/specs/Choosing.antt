@@ -4,7 +4,7 @@ use Rattle.std.specs.Global.{Vec}
 use Rattle.hosts.specs.Event.{Event, tell_call}
 use Rattle.os8_dir.specs.declared.file_faults.FileFault.TheVariants.{BadName, NotFound}
 use Rattle.name_spelling.specs.Patterns.{has_pattern}
-use Rattle.script8.specs.declared.faults.SessionFault.TheVariants.{File, Memory}
+use Rattle.refusals.specs.declared.faults.SessionFault.TheVariants.{File, Memory}
 use Rattle.archive_files.specs.Asking.{Target, OfName, AtBlock, target_of}
 use Rattle.archive_files.specs.declared.asking.Asked.{Asked}
 use Rattle.archive_many.specs.Opened.{OpensVolume, files_on}

@@ -2,7 +2,7 @@
 use Rattle.std.specs.Global.{Vec}
 use Rattle.std.specs.Prelude.{◌≡◌, ◌⊎◌, ℕ, Bool, true, false, Option, None, Some, Result, Ok, Err, List, [], ◌++◌, length, option_map}
 use Rattle.hosts.specs.Event.{Event}
-use Rattle.script8.specs.declared.faults.SessionFault.TheVariants.{Memory}
+use Rattle.refusals.specs.declared.faults.SessionFault.TheVariants.{Memory}
 use Rattle.archive_files.specs.Asking.{Target, target_of}
 use Rattle.archive_files.specs.Copying.{CopiesFile}
 use Rattle.archive_files.specs.declared.faults.CopyFault.{CopyFault}
@@ -17,7 +17,6 @@ use Rattle.program_tasks.specs.declared.forms.CopyForm.{CopyForm}
 use Rattle.image_files.specs.Work.{Then, Purely}
 use Rattle.image_files.specs.Reading.{Opens, LooksAt}
 use Rattle.image_files.specs.Answers.{Answers, AreLines}
-use Rattle.asked_files.specs.Asking.{MeansFile}
 use Rattle.image_files.specs.Stored.{stored_line}
 use Rattle.image_files.specs.Saving.{Stores}
 use Rattle.image_files.specs.declared.images.Image.{Image}
@@ -63,4 +62,4 @@ CopiesFrom false form wanted image = Then (LooksAt form.image) (λ from. CopiesI
 -- The image file that gets the copy is held and read, and then the other one is read. The image with the copy is saved, and only then its
 -- line is printed.
 abbrev pub Copies : CopyForm → List Event → Result (Unit {0}) Ending → List Event → Type 0
-Copies form = Then (Purely (MeansFile form.file)) (λ file. Then (Opens form.to) (λ image. CopiesFrom (is_one_image form.image form.to) form (target_of file) image))
+Copies form = Then (Opens form.to) (λ image. CopiesFrom (is_one_image form.image form.to) form (target_of form.file) image)

@@ -20,7 +20,7 @@ use Rattle.change_commands.specs.declared.creating.TheConstants.{TAPE_BLOCKS, DI
 use Rattle.image_files.specs.Saving.{Reports, Stores}
 use Rattle.image_files.specs.Reading.{Opens}
 use Rattle.program_tasks.specs.declared.forms.ImageForm.{ImageForm}
-use Rattle.script8.specs.declared.faults.SessionFault.TheVariants.{Memory}
+use Rattle.refusals.specs.declared.faults.SessionFault.TheVariants.{Memory}
 use Rattle.image_files.specs.Making.{MakesFirst, MakesFile}
 
 -- the image of an empty volume of so many blocks

@@ -1,7 +1,7 @@
 -- What a step of deleting does. No contract of a public function cites this.
 use Rattle.std.specs.Prelude.{◌≡◌, ◌⊎◌, ℕ, List}
 use Rattle.hosts.specs.Event.{Event}
-use Rattle.script8.specs.declared.faults.SessionFault.TheVariants.{Memory}
+use Rattle.refusals.specs.declared.faults.SessionFault.TheVariants.{Memory}
 use Rattle.archive_files.specs.Asking.{Target}
 use Rattle.archive_files.specs.declared.faults.DeleteFault.{DeleteFault}
 use Rattle.outcome.specs.declared.endings.Ending.{Ending}

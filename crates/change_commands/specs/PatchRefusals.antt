@@ -1,5 +1,5 @@
 -- The refusals whose lines are those of a patch alone (this project's profile).
-use Rattle.std.specs.Prelude.{◌⊎◌, ℕ, Result, Ok, Err, List}
+use Rattle.std.specs.Prelude.{◌⊎◌, ℕ, Ok, Err, List}
 use Rattle.hosts.specs.Event.{Event}
 use Rattle.outcome.specs.declared.endings.Ending.{Ending}
 use Rattle.outcome.specs.declared.endings.Ending.TheVariants.{Failure, FullOutput, NoReader}

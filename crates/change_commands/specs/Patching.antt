@@ -6,7 +6,7 @@ use Rattle.word12.specs.Octal.{octal4}
 use Rattle.block_words.specs.Patching.{Patches}
 use Rattle.block_words.specs.declared.faults.PatchFault.{PatchFault}
 use Rattle.block_words.specs.declared.faults.PatchFault.TheVariants.{NoBlock, NoWord, OtherWord}
-use Rattle.script8.specs.declared.faults.SessionFault.TheVariants.{Memory}
+use Rattle.refusals.specs.declared.faults.SessionFault.TheVariants.{Memory}
 use Rattle.program_tasks.specs.declared.forms.ImageForm.{ImageForm}
 use Rattle.outcome.specs.declared.endings.Ending.{Ending}
 use Rattle.outcome.specs.declared.endings.Ending.TheVariants.{Fault}

@@ -2,7 +2,7 @@
 use Rattle.std.specs.Prelude.{◌≡◌, ◌⊎◌, ℕ, Bool, Option, None, Some, List, ◌∷◌, slice_get}
 use Rattle.hosts.specs.Event.{Event, tell_call}
 use Rattle.os8_dir.specs.declared.file_faults.FileFault.TheVariants.{BadName, NotFound}
-use Rattle.script8.specs.declared.faults.SessionFault.TheVariants as session
+use Rattle.refusals.specs.declared.faults.SessionFault.TheVariants as session
 use Rattle.archive_files.specs.declared.faults.CopyFault.TheVariants.{From}
 use Rattle.archive_files.specs.declared.faults.CopyFault.TheVariants as one
 use Rattle.archive_many.specs.HostNames.{NamesHost}

@@ -16,7 +16,7 @@ use name_spelling::has_pattern;
 use os8_files::FileFault;
 use outcome::{Ending, NameNote, Note};
 use program_tasks::DeleteForm;
-use script8::SessionFault;
+use refusals::SessionFault;
 use std::alloc::{AllocError, Global};
 
 /// The files of the volume in an image that are meant.

@@ -10,7 +10,6 @@ ghost use Rattle.change_commands.specs.CopySteps.{IsNotCopied};
 
 use archive_files::{Asked, CopyFault, NewImage, copy};
 use archive_many::{VolumeFile, cut_file};
-use asked_files::copy_of_asked;
 use hosts::Host;
 use image_files::{Image, answer_of, is_one_image, look_at, refuse_one, store, stored_line};
 use outcome::Ending;
@@ -22,9 +21,8 @@ use volume_salvage::put_cut;
 pub fn copy_file<H: Host>(host: &mut H, alloc: Global, form: &CopyForm) -> Result<(), Ending>
     ensures { Copies form.now (H.history host.old) result (H.history host.new) }
 {
-    let file = copy_of_asked(alloc, &form.file)?;
     let image = Image::open(host, alloc, &form.to)?;
-    copy_to(host, alloc, form, &file, image)
+    copy_to(host, alloc, form, &form.file, image)
 }
 
 /// Copies it to the volume in an image.

@@ -18,7 +18,7 @@ use os8_dir::Name;
 use outcome::Ending;
 use program_reports::{ProgramLine, put_program};
 use program_tasks::DeleteForm;
-use script8::SessionFault;
+use refusals::SessionFault;
 use std::alloc::{AllocError, Global};
 
 /// Takes files out of the volume in an image file, all or none, and reports each.
@@ -122,8 +122,5 @@ fn put_lines(names: &[Name], lines: &mut Vec<u8>) -> Result<(), AllocError>
 fn put_deleted(name: Name, lines: &mut Vec<u8>) -> Result<(), AllocError>
     ensures { OnOk result (lines.new.items ≡ lines.old.items ++ program_line (Deleted name)) }
 {
-    match put_program(&ProgramLine::Deleted(name), lines) {
-        Ok(()) => Ok(()),
-        Err(_) => Err(AllocError),
-    }
+    put_program(&ProgramLine::Deleted(name), lines)
 }

@@ -13,7 +13,7 @@ use os8_files::FileFault;
 use outcome::{Ending, NameNote, Note};
 use program_reports::ProgramLine;
 use program_tasks::CopyManyForm;
-use script8::SessionFault;
+use refusals::SessionFault;
 use std::alloc::{AllocError, Global};
 
 /// How the command ends where a word asks for no file. It is printed.

@@ -1,7 +1,7 @@
 -- What arguments that are not refused have.
 use Rattle.command_table.proofs.Names.{both, length-map, ◌≡◌, ◌∙◌, ◌||◌, ◌≤◌, ◌+◌, Bool, true, false, true≢false, not, if◌then◌else◌, arith, ap, map, option_map, refl, subst, sym, codes, is_some, length, List, [], ◌∷◌, Option, None, Some, find, option_and_then, slice_get, unwrap_or, bytes_eq, Row, Text, first_of}
-use Rattle.command_refusals.specs.declared.refusals.What.{What}
-use Rattle.command_refusals.specs.declared.refusals.What.TheVariants as what
+use Rattle.command_refusals.specs.declared.reasons.What.{What}
+use Rattle.command_refusals.specs.declared.reasons.What.TheVariants as what
 use Rattle.command_table.specs.declared.table.Kind.{Kind}
 use Rattle.command_table.specs.declared.table.Verb.{Verb}
 use Rattle.command_table.specs.declared.table.Verb.TheVariants as verb

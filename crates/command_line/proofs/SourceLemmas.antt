@@ -5,8 +5,8 @@ use Rattle.std.proofs.lemmas.List.{length-map}
 use Rattle.std.specs.Prelude.{codes, option_map, ◌||◌}
 use Rattle.clap.specs.Words.{Row, Text, first_of}
 use Rattle.program_tasks.specs.declared.forms.ImageForm.{ImageForm}
-use Rattle.command_refusals.specs.declared.refusals.What.{What}
-use Rattle.command_refusals.specs.declared.refusals.What.TheVariants as what
+use Rattle.command_refusals.specs.declared.reasons.What.{What}
+use Rattle.command_refusals.specs.declared.reasons.What.TheVariants as what
 use Rattle.command_table.specs.Found.{capitals, has, is_set, name_in, names_in, values_of}
 use Rattle.command_refusals.specs.Refusals.{assemble_missing, says_of_pal8, says_where}
 use Rattle.command_line.specs.Tasks.{IsFrom, source_names}

@@ -7,16 +7,14 @@ use Rattle.clap.specs.Words.{Row, Text, first_of, fault_of, kind_of, one_of, sub
 use Rattle.clap.specs.declared.error.kind.ErrorKind.TheVariants.{OutOfMemory}
 use Rattle.char_pack.specs.declared.forms.GetForm.{GetForm}
 use Rattle.char_pack.specs.declared.forms.GetForm.TheVariants as get_as
-use Rattle.char_pack.specs.declared.forms.PutForm.{PutForm}
-use Rattle.char_pack.specs.declared.forms.PutForm.TheVariants as put_as
 use Rattle.word12.specs.declared.sizes.TheConstants.{MOST_BLOCKS, MOST_SOURCES}
 use Rattle.disk_layouts.specs.declared.layouts.Layout.{Layout}
 use Rattle.program_tasks.specs.Names.{volume_named}
 use Rattle.program_tasks.specs.declared.archives.LineForm.{LineForm}
 use Rattle.program_tasks.specs.declared.archives.LineForm.TheVariants.{Columns, Json}
 use Rattle.program_tasks.specs.declared.forms.CreateForm.{CreateForm}
-use Rattle.program_tasks.specs.declared.forms.FileForm.{FileForm}
-use Rattle.program_tasks.specs.declared.forms.FileForm.TheVariants.{Name, At}
+use Rattle.archive_files.specs.declared.asking.Asked.{Asked}
+use Rattle.archive_files.specs.declared.asking.Asked.TheVariants.{Name, At}
 use Rattle.program_tasks.specs.declared.forms.ImageForm.{ImageForm}
 use Rattle.program_tasks.specs.declared.forms.TapeForm.{TapeForm}
 use Rattle.program_tasks.specs.declared.forms.TapeForm.TheVariants.{File, Member}
@@ -29,16 +27,16 @@ use Rattle.program_tasks.specs.declared.tasks.RimForm.TheVariants.{Lines, Bin}
 use Rattle.program_tasks.specs.declared.tasks.Saving.{Saving}
 use Rattle.program_tasks.specs.declared.tasks.Saving.TheVariants.{AtEnd, Never, Always}
 use Rattle.program_tasks.specs.declared.tasks.Task.{Task}
-use Rattle.program_tasks.specs.declared.tasks.Task.TheVariants.{Tape, Rim, Source, Run, Create, CreateTape, CreateDisk, CreateVolume, ListLong, ListSome, Get, GetBin, GetMany, GetTexts, GetBlocks, Put, PutMany, Delete, Rename, Copy, CopyMany, Squeeze, Check, Dump, Patch, Index, Rescue, Scan, Assemble, Teletype, Trace, Profile}
+use Rattle.program_tasks.specs.declared.tasks.Task.TheVariants.{Tape, Rim, Source, Run, Create, CreateTape, CreateDisk, CreateVolume, ListLong, ListSome, Get, GetBin, GetMany, GetTexts, GetBlocks, Put, Delete, Rename, Copy, CopyMany, Squeeze, Check, Dump, Patch, Index, Rescue, Scan, Assemble, Teletype, Trace, Profile}
 use Rattle.program_tasks.specs.declared.tasks.Task.TheVariants as task
 use Rattle.command_refusals.specs.declared.faults.TaskFault.{TaskFault}
 use Rattle.command_refusals.specs.declared.faults.TaskFault.TheVariants.{Words, Memory, Refused}
-use Rattle.command_refusals.specs.declared.refusals.Refusal.{Refusal}
+use Rattle.command_refusals.specs.declared.reasons.Refusal.{Refusal}
 use Rattle.command_table.specs.declared.table.TheConstants.{MOST_IMAGES}
 use Rattle.command_table.specs.declared.table.Verb.{Verb}
 use Rattle.command_table.specs.declared.table.Verb.TheVariants as verb
 use Rattle.command_table.specs.Found.{IsReadAs, bits_of, cell_of, date_year, has, is_set, layout_of, name_in, names_in, number_in, number_of, place_of, span_of, values_of, wait_of, word_of, year_of, IsInfo}
-use Rattle.command_refusals.specs.Refusals.{blocks_word, copies_pattern, input_count, prints_texts, puts_many, refusal_of}
+use Rattle.command_refusals.specs.Refusals.{blocks_word, copies_pattern, input_count, prints_texts, refusal_of}
 use Rattle.command_table.specs.Tables.{Entry, entry_named, pdp8}
 use Rattle.command_refusals.specs.Faults.{RefusesOf}
 
@@ -51,10 +49,6 @@ rim_form values = if is_set (codes "bin") values then Bin else Lines
 -- what is asked of a file that is asked for as it is: its tape, else its text, else its frames
 abbrev pub get_form : List Row → GetForm
 get_form values = if is_set (codes "tape") values then get_as.Tape else if is_set (codes "text") values then get_as.Text else get_as.Frames
-
--- what bytes are to become in a file: its text, else its frames
-abbrev pub put_form : List Row → PutForm
-put_form values = if is_set (codes "text") values then put_as.Text else put_as.Frames
 
 -- when a run writes the image
 abbrev pub saving_of : List Row → Saving
@@ -128,7 +122,7 @@ abbrev pub IsTarget : Text → List Row → ImageForm → Type 0
 IsTarget id values image = IsVolume (layout_of (codes "to-volume") (codes "to-dectape") values) (is_set (codes "to-plain") values) id (wait_of values) false values image
 
 -- the file whose first block `--at` gives, else that of the name
-abbrev pub IsFile : List Row → FileForm → Type 0
+abbrev pub IsFile : List Row → Asked → Type 0
 IsFile values (Name name) = (has (codes "at") values ≡ false) × (name_in (codes "NAME") values ≡ Some name.bytes.items)
 IsFile values (At place) = option_map place_of (first_of (codes "at") values) ≡ Some (Some place)
 
@@ -220,13 +214,9 @@ AsksFor which values (GetTexts form) = (which ≡ verb.Get) × (is_set (codes "b
 AsksFor which values (GetBlocks form) = (which ≡ verb.Get) × (is_set (codes "blocks") values ≡ true)
     × IsRead values form.image × (number_in 0 4094 (blocks_word 0 values) ≡ Some form.first)
     × (number_in 1 MOST_BLOCKS (blocks_word 1 values) ≡ Some form.count) × (form.form ≡ get_form values)
-AsksFor which values (Put form) = (which ≡ verb.Put) × (puts_many values ≡ false) × IsChanged values form.image
-    × (first_of (codes "FILE") values ≡ Some form.file.bytes.items)
-    × (name_in (codes "as") values ≡ Some form.name.bytes.items) × (form.form ≡ put_form values)
-    × (form.may_empty ≡ is_set (codes "empty") values) × IsInfo values (option_map (λ words. words.items) form.info)
-    × (form.is_dated ≡ is_set (codes "dates") values) × (form.year ≡ date_year values)
-AsksFor which values (PutMany form) = (which ≡ verb.Put) × (puts_many values ≡ true) × IsChanged values form.image
+AsksFor which values (Put form) = (which ≡ verb.Put) × IsChanged values form.image
     × (values_of (codes "FILE") values ≡ map (λ file. file.bytes.items) form.files.items)
+    × (name_in (codes "as") values ≡ option_map (λ name. name.bytes.items) form.name)
     × AreTexts values form.texts × (form.may_empty ≡ is_set (codes "empty") values)
     × IsInfo values (option_map (λ words. words.items) form.info) × (form.is_dated ≡ is_set (codes "dates") values)
     × (form.year ≡ date_year values)
@@ -299,7 +289,7 @@ Refuses (Some met) line refusal = RefusesOf (entry_named met.0) met.1 line refus
 abbrev pub HasFitBlocks : Task → Type 0
 HasFitBlocks (Create form blocks) = (8 ≤ blocks) × (blocks ≤ MOST_BLOCKS)
 HasFitBlocks (GetBlocks form) = (form.first ≤ 4094) × (1 ≤ form.count) × (form.count ≤ MOST_BLOCKS)
-HasFitBlocks (PutMany form) = 1 ≤ length form.files.items
+HasFitBlocks (Put form) = 1 ≤ length form.files.items
 HasFitBlocks (Delete form) = 1 ≤ length form.names.items + length form.places.items
 HasFitBlocks (Patch form) = form.number < 0o400
 HasFitBlocks (Check form) = (1 ≤ length form.images.items) × (length form.images.items ≤ MOST_IMAGES)

@@ -13,16 +13,16 @@ ghost use Rattle.command_table.specs.declared.table.Kind.TheVariants as kind;
 ghost use Rattle.command_table.specs.declared.table.Verb.TheVariants as verb;
 
 use crate::volumes::{changed_image, image_of, read_image, target_of};
-use char_pack::{GetForm, PutForm};
+use archive_files::{Asked, GetForm};
 use clap::ArgMatches;
-use command_refusals::{blocks_word, copies_pattern, prints_texts, puts_many};
+use command_refusals::{blocks_word, copies_pattern, prints_texts};
 use command_table::{
     Read, Verb, block_of, blocks_of, date_year, flag, has, info_of, name_if_given, name_of,
     names_of, number_of, text_of, texts_in, value_of, values_of, year_of,
 };
 use program_tasks::{
-    BlocksForm, CopyForm, CopyManyForm, DeleteForm, FileForm, GetManyForm, GetTextsForm, ImageForm,
-    PutManyForm, PutOneForm, Task, TextsForm,
+    BlocksForm, CopyForm, CopyManyForm, DeleteForm, GetManyForm, GetTextsForm, ImageForm,
+    PutFilesForm, Task, TextsForm,
 };
 use std::alloc::Global;
 use word12::MOST_BLOCKS;
@@ -163,45 +163,20 @@ pub fn put(alloc: Global, found: &ArgMatches<'_>) -> Read<Task>
     ensures { IfOk result (IsAskedBy verb.Put (values_in found.now)) }
 {
     let image = changed_image(alloc, found, Verb::Put, "IMAGE")?;
+    let files = values_of(alloc, found, Verb::Put, "FILE")?;
+    let name = name_if_given(alloc, found, Verb::Put, "as")?;
+    let texts = texts_of(alloc, found, Verb::Put)?;
     let info = info_of(alloc, found, Verb::Put)?;
-    let year = date_year(found, Verb::Put);
-    let is_dated = flag(found, Verb::Put, "dates");
-    let may_empty = flag(found, Verb::Put, "empty");
-    if puts_many(found) {
-        let files = values_of(alloc, found, Verb::Put, "FILE")?;
-        let texts = texts_of(alloc, found, Verb::Put)?;
-        return Ok(Task::PutMany(PutManyForm {
-            image,
-            files,
-            texts,
-            info,
-            year,
-            is_dated,
-            may_empty,
-        }));
-    }
-    let file = value_of(alloc, found, Verb::Put, "FILE")?;
-    let name = name_of(alloc, found, Verb::Put, "as")?;
-    Ok(Task::Put(PutOneForm {
+    Ok(Task::Put(PutFilesForm {
         image,
-        file,
+        files,
         name,
-        form: put_form(found),
+        texts,
         info,
-        year,
-        is_dated,
-        may_empty,
+        year: date_year(found, Verb::Put),
+        is_dated: flag(found, Verb::Put, "dates"),
+        may_empty: flag(found, Verb::Put, "empty"),
     }))
-}
-
-/// What bytes are to become in a file.
-fn put_form(found: &ArgMatches<'_>) -> PutForm
-    ensures { result ≡ spec.put_form (values_in found.now) }
-{
-    if flag(found, Verb::Put, "text") {
-        return PutForm::Text;
-    }
-    PutForm::Frames
 }
 
 /// The files that are to be taken out.
@@ -349,7 +324,7 @@ fn copy_one(alloc: Global, found: &ArgMatches<'_>) -> Read<Task>
 
 /// The file whose first block `--at` gives, or else that of the name.
 #[tactic(auto, using(crate::proofs::RefusalLemmas::not_placed))]
-fn file_of(alloc: Global, found: &ArgMatches<'_>, verb: Verb) -> Read<FileForm>
+fn file_of(alloc: Global, found: &ArgMatches<'_>, verb: Verb) -> Read<Asked>
     requires at { takes_block (kind_at (codes "at") (rows_for verb)) ≡ true }
     requires name { has_text (kind_at (codes "NAME") (rows_for verb)) ≡ true }
     requires first { IsFirst form.Block (codes "at") (values_in found.now) }
@@ -358,10 +333,10 @@ fn file_of(alloc: Global, found: &ArgMatches<'_>, verb: Verb) -> Read<FileForm>
     ensures { IfOk result (IsFile (values_in found.now)) }
 {
     match block_of(found, verb, "at") {
-        Some(place) => Ok(FileForm::At(place)),
+        Some(place) => Ok(Asked::At(place)),
         None => {
             let name = name_of(alloc, found, verb, "NAME")?;
-            Ok(FileForm::Name(name))
+            Ok(Asked::Name(name))
         }
     }
 }

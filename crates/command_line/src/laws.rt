@@ -1,5 +1,5 @@
 //! What plain command lines ask for.
-ghost use Rattle.std.specs.Prelude.{◌≡◌, ◌∷◌, [], ℕ, List, codes, None, Some};
+ghost use Rattle.std.specs.Prelude.{◌≡◌, ◌∷◌, [], ℕ, List, codes, false, true, None, Some};
 ghost use Rattle.clap.specs.Words.{IsUnsignedIn};
 ghost use Rattle.program_tasks.specs.Names.{volume_named};
 ghost use Rattle.program_tasks.specs.declared.archives.LineForm.TheVariants.{Columns, Json};
@@ -7,13 +7,12 @@ ghost use Rattle.program_tasks.specs.declared.tasks.Cpu.TheVariants.{EightI, Eig
 ghost use Rattle.program_tasks.specs.declared.tasks.RimForm.TheVariants.{Lines, Bin};
 ghost use Rattle.program_tasks.specs.declared.tasks.Saving.TheVariants.{AtEnd, Never, Always};
 ghost use Rattle.char_pack.specs.declared.forms.GetForm.TheVariants as get_as;
-ghost use Rattle.char_pack.specs.declared.forms.PutForm.TheVariants as put_as;
 ghost use Rattle.disk_layouts.specs.declared.layouts.Layout.TheVariants.{First, Second, Dectape};
 ghost use Rattle.word12.specs.declared.sizes.TheConstants.{MOST_BLOCKS};
-ghost use Rattle.command_table.specs.Found.{capitals, layout_of, name_in, names_in, wait_of};
+ghost use Rattle.command_table.specs.Found.{capitals, is_set, layout_of, name_in, names_in, wait_of};
 ghost use Rattle.command_line.specs.Plain.{AreTaken, IsTaken, after, alone, only_gives, in_place, with_value};
 ghost use Rattle.command_refusals.specs.Refusals.{refusal_of, together, value};
-ghost use Rattle.command_line.specs.Tasks.{cpu_of, get_form, line_form, put_form, rim_form, saving_of};
+ghost use Rattle.command_line.specs.Tasks.{cpu_of, get_form, line_form, rim_form, saving_of};
 ghost use Rattle.command_table.specs.declared.table.Verb.TheVariants as verb;
 
 /// A law: plain command lines are taken, and give their arguments what they say, and nothing else: each option is read at its own place. So
@@ -107,8 +106,8 @@ pub fn options()
         × (get_form (only_gives (codes "get") (alone (codes "text") ∷ [])) ≡ get_as.Text)
         × (get_form (only_gives (codes "get") (alone (codes "tape") ∷ [])) ≡ get_as.Tape)
         × (get_form (only_gives (codes "get") (alone (codes "text") ∷ alone (codes "tape") ∷ [])) ≡ get_as.Tape) }
-    ensures put { (put_form (only_gives (codes "put") []) ≡ put_as.Frames)
-        × (put_form (only_gives (codes "put") (alone (codes "text") ∷ [])) ≡ put_as.Text) }
+    ensures put { (is_set (codes "text") (only_gives (codes "put") []) ≡ false) × (name_in (codes "as") (only_gives (codes "put") []) ≡ None)
+        × (is_set (codes "text") (only_gives (codes "put") (alone (codes "text") ∷ [])) ≡ true) }
     ensures index { (line_form (only_gives (codes "index") []) ≡ Columns) × (line_form (only_gives (codes "index") (alone (codes "json") ∷ [])) ≡ Json) }
     ensures layout { (layout_of (codes "volume") (codes "dectape") (only_gives (codes "list") []) ≡ None)
         × (layout_of (codes "volume") (codes "dectape") (only_gives (codes "list") (with_value (codes "volume") (codes "1") ∷ [])) ≡ Some First)

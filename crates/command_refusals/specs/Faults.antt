@@ -5,7 +5,7 @@ use Rattle.clap.specs.declared.error.Error.{Error}
 use Rattle.clap.specs.declared.error.kind.ErrorKind.TheVariants.{OutOfMemory}
 use Rattle.command_refusals.specs.declared.faults.TaskFault.{TaskFault}
 use Rattle.command_refusals.specs.declared.faults.TaskFault.TheVariants.{Words, Memory, Refused}
-use Rattle.command_refusals.specs.declared.refusals.Refusal.{Refusal}
+use Rattle.command_refusals.specs.declared.reasons.Refusal.{Refusal}
 use Rattle.command_refusals.specs.Refusals.{refusal_of, saying_of}
 use Rattle.command_table.specs.Tables.{Entry}
 use Rattle.command_refusals.specs.declared.faults.TaskFault.TheVariants as fault

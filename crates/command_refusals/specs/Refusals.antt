@@ -5,10 +5,10 @@ use Rattle.std.specs.Prelude.{◌+◌, ◌&&◌, ◌||◌, not, Bool, false, if�
 use Rattle.std.specs.Str.{bytes_eq}
 use Rattle.clap.specs.Words.{Row, Text, first_of}
 use Rattle.word12.specs.declared.sizes.TheConstants.{MOST_BLOCKS}
-use Rattle.command_refusals.specs.declared.refusals.Refusal.{Refusal}
-use Rattle.command_refusals.specs.declared.refusals.Refusal.TheVariants as refusal
-use Rattle.command_refusals.specs.declared.refusals.What.{What}
-use Rattle.command_refusals.specs.declared.refusals.What.TheVariants as what
+use Rattle.command_refusals.specs.declared.reasons.Refusal.{Refusal}
+use Rattle.command_refusals.specs.declared.reasons.Refusal.TheVariants as refusal
+use Rattle.command_refusals.specs.declared.reasons.What.{What}
+use Rattle.command_refusals.specs.declared.reasons.What.TheVariants as what
 use Rattle.command_table.specs.declared.table.Form.{Form}
 use Rattle.command_table.specs.declared.table.Form.TheVariants.{Text as a_text, Cell, Octal, Volume, Cpu, Block, Seconds, Span, Index, Bits, Date, Year}
 use Rattle.command_table.specs.declared.table.Kind.{Kind}

@@ -3,7 +3,7 @@ ghost use Rattle.std.specs.Prelude.{◌≡◌};
 ghost use Rattle.command_refusals.specs.Faults.{IsFaultOf};
 ghost use Rattle.command_refusals.specs.declared.faults.TaskFault.TheVariants.{Memory};
 
-use crate::refusals::Refusal;
+use crate::reasons::Refusal;
 use clap::error::ErrorKind;
 use std::alloc::AllocError;
 use thiserror::Error;

@@ -9,7 +9,7 @@ ghost use Rattle.command_table.specs.Values.{values_in};
 
 use crate::TaskFault;
 use crate::missing::{copies_pattern, input_count, missing_of, puts_input};
-use crate::refusals::Refusal;
+use crate::reasons::Refusal;
 use clap::ArgMatches;
 use command_table::{
     Argument, Entry, Form, Kind, Pair, Verb, arguments_of, bits_in, cell_in, date_in, has, is_set,

@@ -4,9 +4,9 @@
 mod faults;
 mod judging;
 mod missing;
-mod refusals;
+mod reasons;
 
 pub use faults::TaskFault;
 pub use judging::{blocks_word, judge_arguments};
-pub use missing::{copies_pattern, prints_texts, puts_many};
-pub use refusals::{Refusal, What};
+pub use missing::{copies_pattern, prints_texts};
+pub use reasons::{Refusal, What};

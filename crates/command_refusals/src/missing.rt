@@ -6,7 +6,7 @@ ghost use Rattle.command_refusals.specs.Refusals as spec;
 ghost use Rattle.command_table.specs.declared.table.Verb.TheVariants as verb;
 
 use crate::judging::blocks_word;
-use crate::refusals::What;
+use crate::reasons::What;
 use clap::ArgMatches;
 use command_table::{Verb, has, is_set, text_of, texts_in, word_at};
 use program_tasks::volume_named;
@@ -217,7 +217,7 @@ fn is_alone(found: &ArgMatches<'_>, id: &str, other: &str) -> bool
 }
 
 /// Whether files of the host are put under their own names.
-pub fn puts_many(found: &ArgMatches<'_>) -> bool
+fn puts_many(found: &ArgMatches<'_>) -> bool
     ensures { result ≡ spec.puts_many (values_in found.now) }
 {
     !has(found, "as")

@@ -73,67 +73,70 @@ small (suc (suc zero)) h = refl
 small (suc (suc (suc zero))) h = refl
 small (suc (suc (suc (suc n)))) h = let b = within (suc (suc (suc (suc n)))) 3 h in absurd (omega (arith, b))
 
--- ## Out of user mode: the user flag changes by a jump alone
+-- ## The user flag changes by a jump alone, and the request of devices by no instruction
+
+abbrev Keeps : State8e → State8e → Type 0
+Keeps s new = (new.user_flag ≡ s.user_flag) × (new.device_request ≡ s.device_request)
 
 abbrev Stays : State8e → State8e × Stepped → Type 0
-Stays s r = r.0.user_flag ≡ s.user_flag
+Stays s r = Keeps s r.0
 
 choose : (s : State8e) (b : Bool) (x y : State8e × Stepped) → Stays s x → Stays s y → Stays s (if b then x else y)
 choose s true x y hx hy = hx
 choose s false x y hx hy = hy
 
 -- the same of states
-flag : (s : State8e) (b : Bool) (x y : State8e) → x.user_flag ≡ s.user_flag → y.user_flag ≡ s.user_flag → (if b then x else y).user_flag ≡ s.user_flag
+flag : (s : State8e) (b : Bool) (x y : State8e) → Keeps s x → Keeps s y → Keeps s (if b then x else y)
 flag s true x y hx hy = hx
 flag s false x y hx hy = hy
 
-control-stays : (s : State8e) (w : ℕ) → (control_row s w).user_flag ≡ s.user_flag
+control-stays : (s : State8e) (w : ℕ) → Keeps s (control_row s w)
 control-stays s w =
-    flag s (is_control_of_8i w) _ _ refl
-    (flag s (nat_eq (pulses_of w) 0) (skon_row s) _ refl
-    (flag s (nat_eq (pulses_of w) 3) (srq_row s) _ refl
-    (flag s (nat_eq (pulses_of w) 4) (gtf_row s) _ refl
-    (flag s (nat_eq (pulses_of w) 5) (rtf_row s) (caf_row s) refl refl))))
+    flag s (is_control_of_8i w) _ _ (refl, refl)
+    (flag s (nat_eq (pulses_of w) 0) (skon_row s) _ (refl, refl)
+    (flag s (nat_eq (pulses_of w) 3) (srq_row s) _ (refl, refl)
+    (flag s (nat_eq (pulses_of w) 4) (gtf_row s) _ (refl, refl)
+    (flag s (nat_eq (pulses_of w) 5) (rtf_row s) (caf_row s) (refl, refl) (refl, refl)))))
 
-keyboard-stays : (s : State8e) (w : ℕ) → (keyboard_row s w).user_flag ≡ s.user_flag
+keyboard-stays : (s : State8e) (w : ℕ) → Keeps s (keyboard_row s w)
 keyboard-stays s w =
-    flag s (is_console_of_8i w) _ _ refl
-    (flag s (nat_eq (pulses_of w) 0) (kcf_row s) _ refl (flag s (nat_eq (pulses_of w) 5) (kie_row s) (nothing_row s) refl refl))
+    flag s (is_console_of_8i w) _ _ (refl, refl)
+    (flag s (nat_eq (pulses_of w) 0) (kcf_row s) _ (refl, refl) (flag s (nat_eq (pulses_of w) 5) (kie_row s) (nothing_row s) (refl, refl) (refl, refl)))
 
 printer-stays : (s : State8e) (w : ℕ) → Stays s (printer_row s w)
 printer-stays s w =
-    choose s (is_console_of_8i w) _ _ refl
-    (choose s (nat_eq (pulses_of w) 0) (tfl_row s, Ran None) _ refl
-    (choose s (nat_eq (pulses_of w) 5) (tsk_row s, Ran None) (nothing_row s, Ran None) refl refl))
+    choose s (is_console_of_8i w) _ _ (refl, refl)
+    (choose s (nat_eq (pulses_of w) 0) (tfl_row s, Ran None) _ (refl, refl)
+    (choose s (nat_eq (pulses_of w) 5) (tsk_row s, Ran None) (nothing_row s, Ran None) (refl, refl) (refl, refl)))
 
-read-stays : (s : State8e) (n : ℕ) → (read_row s n).user_flag ≡ s.user_flag
+read-stays : (s : State8e) (n : ℕ) → Keeps s (read_row s n)
 read-stays s n =
-    flag s (nat_eq n 0) (cint_row s) _ refl
-    (flag s (nat_eq n 1) (with_base s (Transfer8i.rdf_row s.base)) _ refl
-    (flag s (nat_eq n 2) (with_base s (Transfer8i.rif_row s.base)) _ refl
-    (flag s (nat_eq n 3) (rib_row s) _ refl
-    (flag s (nat_eq n 4) (rmf_row s) _ refl
-    (flag s (nat_eq n 5) (sint_row s) (user_buffer_row s (nat_eq n 7)) refl refl)))))
+    flag s (nat_eq n 0) (cint_row s) _ (refl, refl)
+    (flag s (nat_eq n 1) (with_base s (Transfer8i.rdf_row s.base)) _ (refl, refl)
+    (flag s (nat_eq n 2) (with_base s (Transfer8i.rif_row s.base)) _ (refl, refl)
+    (flag s (nat_eq n 3) (rib_row s) _ (refl, refl)
+    (flag s (nat_eq n 4) (rmf_row s) _ (refl, refl)
+    (flag s (nat_eq n 5) (sint_row s) (user_buffer_row s (nat_eq n 7)) (refl, refl) (refl, refl))))))
 
-fields-stay : (s : State8e) (w : ℕ) → (fields_row s w).user_flag ≡ s.user_flag
-fields-stay s w = flag s (nat_eq (pulses_of w) 4) (read_row s (field_of w)) _ (read-stays s (field_of w)) refl
+fields-stay : (s : State8e) (w : ℕ) → Keeps s (fields_row s w)
+fields-stay s w = flag s (nat_eq (pulses_of w) 4) (read_row s (field_of w)) _ (read-stays s (field_of w)) (refl, refl)
 
 device-stays : (s : State8e) (w : ℕ) → Stays s (device_row s w)
 device-stays s w =
     choose s (nat_eq (w / 0o10 % 0o100) 0) (control_row s w, Ran None) _ (control-stays s w)
     (choose s (nat_eq (w / 0o10 % 0o100) 3) (keyboard_row s w, Ran None) _ (keyboard-stays s w)
     (choose s (nat_eq (w / 0o10 % 0o100) 4) (printer_row s w) _ (printer-stays s w)
-    (choose s (nat_eq (w / 0o100 % 8) 2) (fields_row s w, Ran None) (nothing_row s, Ran None) (fields-stay s w) refl)))
+    (choose s (nat_eq (w / 0o100 % 8) 2) (fields_row s w, Ran None) (nothing_row s, Ran None) (fields-stay s w) (refl, refl))))
 
 operate-stays : (s : State8e) (w : ℕ) → Stays s (operate_row s w)
 operate-stays s w =
     choose s (is_group_1 w) (group1_row s w) _
-    (choose s (Operate8i.is_group1_unassigned w) (with_base s (bsw_result s.base w), Ran None) _ refl refl)
+    (choose s (Operate8i.is_group1_unassigned w) (with_base s (bsw_result s.base w), Ran None) _ (refl, refl) (refl, refl))
     (choose s (is_group_2 w) (group2_row s w) (group3_done s w, Ran None)
-    (choose s (s.user_flag && is_privileged w) (refusal_of s w, Ran None) _ refl refl) refl)
+    (choose s (s.user_flag && is_privileged w) (refusal_of s w, Ran None) _ (refl, refl) (refl, refl)) (refl, refl))
 
 transfer-stays : (s : State8e) (w : ℕ) → Stays s (transfer_row s w)
-transfer-stays s w = choose s s.user_flag _ (device_row s w) refl (device-stays s w)
+transfer-stays s w = choose s s.user_flag _ (device_row s w) (refl, refl) (device-stays s w)
 
 -- ## In user mode
 
@@ -253,7 +256,7 @@ instruction-settles-out s w off = either (is_reference w)
     (λ no. either (is_jump w)
     (λ yes. rw (no, yes) (jump-settles s w no yes))
     (λ no_jump. rw (no, no_jump) (unflagged (if is_transfer w then transfer_row s w else operate_row s w).0
-    (choose s (is_transfer w) (transfer_row s w) (operate_row s w) (transfer-stays s w) (operate-stays s w) ∙ off))))
+    ((choose s (is_transfer w) (transfer_row s w) (operate_row s w) (transfer-stays s w) (operate-stays s w)).0 ∙ off))))
 
 instruction-settles : (s : State8e) (w : ℕ) → IsSettled s → IsSettled (after_instruction s w).0
 instruction-settles s w settled = either s.user_flag
@@ -291,3 +294,24 @@ leaves-fields s false grants settled user not_so =
 pub step-leaves-fields : (s : State8e) → IsSettled s → s.user_flag ≡ true → (step s).1 ≢ Interrupted → LeavesFields s (step s).0
 unfolding step
 step-leaves-fields s settled user not_so = leaves-fields s s.base.running (grants_interrupt s) settled user not_so
+
+-- ## The request of devices
+
+instruction-requests : (s : State8e) (w : ℕ) → (after_instruction s w).0.device_request ≡ s.device_request
+unfolding after_instruction
+instruction-requests s w = either (is_reference w)
+    (λ yes. rw yes refl)
+    (λ no. either (is_jump w)
+    (λ yes. rw (no, yes) refl)
+    (λ no_jump. rw (no, no_jump) (choose s (is_transfer w) (transfer_row s w) (operate_row s w) (transfer-stays s w) (operate-stays s w)).1))
+
+requests : (s : State8e) (runs grants : Bool)
+    → (if runs then (if grants then (after_interrupt s, Interrupted) else after_instruction s (next_word s.base)) else (s, Stopped)).0.device_request
+    ≡ s.device_request
+requests s true true = refl
+requests s true false = instruction-requests s (next_word s.base)
+requests s false grants = refl
+
+pub step-requests : (s : State8e) → (step s).0.device_request ≡ s.device_request
+unfolding step
+step-requests s = requests s s.base.running (grants_interrupt s)

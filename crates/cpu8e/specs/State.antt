@@ -3,6 +3,7 @@ use Rattle.std.specs.Prelude.{ℕ, ◌+◌, Bool, true, false, ◌&&◌, ◌||�
 use Rattle.tty8.specs.Teletype.{idle, is_requesting}
 use Rattle.cpu8.specs.State.{State}
 use Rattle.cpu8.specs.State as Pdp8i
+use Rattle.cpu8.specs.Transfer.{after_skip}
 use Rattle.cpu8.specs.declared.outcomes.Stepped.{Stepped}
 
 pub record State8e : Type 0 where
@@ -20,6 +21,8 @@ pub record State8e : Type 0 where
   pub user_request : Bool
   -- KE: the flags of the console request interrupts
   pub console_enabled : Bool
+  -- a device beside the console requests an interrupt
+  pub device_request : Bool
 
 -- an 8/E that has the state of this 8/I and this MQ, and else what a new 8/E has
 abbrev pub as_8e : ℕ → State → State8e
@@ -31,6 +34,7 @@ as_8e mq base = record {
   saved_user_flag = false;
   user_request = false;
   console_enabled = true;
+  device_request = false;
 }
 
 -- the state with another 8/I's
@@ -49,9 +53,13 @@ with_core s core = with_base s (Pdp8i.with_core s.base core)
 abbrev pub save_field : State8e → ℕ
 save_field s = if s.saved_user_flag then 0o100 + s.base.save_field else s.base.save_field
 
--- an interrupt is requested: by the user request, or by a flag of the console where these are enabled
+-- the user request is set, or a device beside the console requests an interrupt
+abbrev pub is_requested_by_others : State8e → Bool
+is_requested_by_others s = s.user_request || s.device_request
+
+-- an interrupt is requested: by these, or by a flag of the console where its flags are enabled
 abbrev pub is_requested : State8e → Bool
-is_requested s = s.user_request || (s.console_enabled && is_requesting s.base.teletype)
+is_requested s = is_requested_by_others s || (s.console_enabled && is_requesting s.base.teletype)
 
 -- whether the request is granted, so that an interrupt comes in place of the next instruction
 abbrev pub grants_interrupt : State8e → Bool
@@ -78,3 +86,14 @@ key_struck s character = with_base s (Pdp8i.key_struck s.base character)
 -- the printer ends its character, if it has one
 abbrev pub printer_done : State8e → State8e
 printer_done s = with_base s (Pdp8i.printer_done s.base)
+
+-- ## What devices beside the console do
+
+-- one of them requests an interrupt, or none does any more
+abbrev pub with_request : State8e → Bool → State8e
+with_request s flag = record s { device_request = flag }
+
+-- An IOT of such a device is done. AC is what the device makes of it, and PC goes on by one, or by two where the device makes the
+-- instruction skip.
+abbrev pub device_answered : State8e → ℕ → Bool → State8e
+device_answered s ac skips = with_base s (record (after_skip s.base skips) { ac = ac })

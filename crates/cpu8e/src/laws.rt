@@ -36,3 +36,8 @@ pub fn user_is_held()
     ensures fields { (s : State8e) → IsSettled s → s.user_flag ≡ true → (step s).1 ≢ Interrupted
         → LeavesFields s (step s).0 }
 {}
+
+/// No step changes whether devices beside the console request an interrupt.
+pub fn request_stays()
+    ensures { (s : State8e) → (step s).0.device_request ≡ s.device_request }
+{}

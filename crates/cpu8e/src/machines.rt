@@ -1,6 +1,6 @@
 ghost use Rattle.std.specs.Prelude.{◌≡◌};
 ghost use Rattle.std.specs.Borrow.{sem};
-ghost use Rattle.cpu8e.specs.State.{new_machine, after_start, key_struck, printer_done, switches_set, with_core};
+ghost use Rattle.cpu8e.specs.State.{new_machine, after_start, device_answered, key_struck, printer_done, switches_set, with_core, with_request};
 ghost use Rattle.cpu8e.specs.Step.{step};
 
 use crate::processors::Processor;
@@ -67,6 +67,24 @@ impl Machine {
         ensures { self.new ≡ switches_set self.old word }
     {
         self.processor.base.switches = word;
+    }
+
+    /// Devices beside the console request an interrupt, or none does any more. The request stands until this is said again or the
+    /// machine is started (Small Computer Handbook).
+    #[inline]
+    pub fn request_interrupt(&mut self, flag: bool)
+        ensures { self.new ≡ with_request self.old flag }
+    {
+        self.processor.device_request = flag;
+    }
+
+    /// A device beside the console does the IOT at PC. AC becomes this word, and PC goes on by one, or by two where the instruction
+    /// skips. A waiting ION is over (Small Computer Handbook).
+    #[inline]
+    pub fn answer_device(&mut self, ac: Word, skips: bool)
+        ensures { self.new ≡ device_answered self.old ac skips }
+    {
+        self.processor.answer_device(ac, skips);
     }
 
     /// Core, to be examined.

@@ -26,6 +26,7 @@ pub(crate) struct Processor {
     pub(crate) saved_user_flag: bool,
     pub(crate) user_request: bool,
     pub(crate) console_enabled: bool,
+    pub(crate) device_request: bool,
 }
 
 impl Model for Processor {
@@ -41,6 +42,7 @@ impl Model for Processor {
       saved_user_flag = p.saved_user_flag;
       user_request = p.user_request;
       console_enabled = p.console_enabled;
+      device_request = p.device_request;
     } };
 
     ghost inverse = { λ s. record {
@@ -51,6 +53,7 @@ impl Model for Processor {
       saved_user_flag = s.saved_user_flag;
       user_request = s.user_request;
       console_enabled = s.console_enabled;
+      device_request = s.device_request;
     } };
 }
 
@@ -67,6 +70,7 @@ impl Processor {
             saved_user_flag: false,
             user_request: false,
             console_enabled: true,
+            device_request: false,
         }
     }
 
@@ -79,6 +83,7 @@ impl Processor {
         self.saved_user_flag = false;
         self.user_request = false;
         self.console_enabled = true;
+        self.device_request = false;
     }
 
     /// One step over this core.
@@ -103,12 +108,13 @@ impl Processor {
     fn is_requested(&self) -> bool
         ensures { result ≡ is_requested self.now }
     {
-        self.user_request || self.console_enabled && self.base.teletype.requests()
+        let others = self.user_request || self.device_request;
+        others || self.console_enabled && self.base.teletype.requests()
     }
 
     /// Whether an interrupt comes in place of the next instruction.
     #[inline(always)]
-    fn grants_interrupt(&self) -> bool
+    pub(crate) fn grants_interrupt(&self) -> bool
         ensures { result ≡ grants_interrupt self.now }
     {
         let base = &self.base;

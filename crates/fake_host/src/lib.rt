@@ -1,8 +1,7 @@
 //! A host in memory of which one call fails, for tests.
 #![tactic(auto)]
 
-mod fake;
+mod calls;
 mod memory;
 
-pub use fake::Fake;
 pub use memory::InMemory;

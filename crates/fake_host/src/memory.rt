@@ -1,13 +1,13 @@
 //! The files and the streams of a host in memory.
 ghost use Rattle.std.specs.Prelude.{◌≤◌, ◌+◌, length, IfOk};
 
-use hosts::{HostFault, LinkFault, PrintFault, RenameFault};
+use hosts::HostFault;
 use std::alloc::{AllocError, Global};
 
-/// One file, the one beside it, and the streams.
+/// One file, which every name leads to, the one beside it, and the streams.
 #[derive(Drop)]
 pub struct InMemory {
-    alloc: Global,
+    pub(crate) alloc: Global,
     pub file: Option<Vec<u8>>,
     pub beside: Option<Vec<u8>>,
     pub input: Vec<u8>,
@@ -35,11 +35,11 @@ pub struct InMemory {
 }
 
 /// The first bytes of these, one more than are wanted at most.
-fn first_of(alloc: Global, bytes: &[u8], most: usize) -> Result<Vec<u8>, HostFault>
+pub(crate) fn first_of(alloc: Global, bytes: &[u8], most: usize) -> Result<Vec<u8>, HostFault>
     ensures { IfOk result (λ it. length it.items ≤ most + 1) }
 {
     let first = if bytes.len() > most {
-        &bytes[..most]
+        &bytes[..most + 1]
     } else {
         bytes
     };
@@ -48,7 +48,12 @@ fn first_of(alloc: Global, bytes: &[u8], most: usize) -> Result<Vec<u8>, HostFau
 }
 
 /// What stands after bytes were written over others from one on.
-fn over(old: &[u8], at: usize, new: &[u8], laid: &mut Vec<u8>) -> Result<(), AllocError> {
+pub(crate) fn over(
+    old: &[u8],
+    at: usize,
+    new: &[u8],
+    laid: &mut Vec<u8>,
+) -> Result<(), AllocError> {
     let (head, rest) = old.split_at(old.len().min(at));
     laid.extend_from_slice(head)?;
     for _ in laid.len()..at {
@@ -61,7 +66,7 @@ fn over(old: &[u8], at: usize, new: &[u8], laid: &mut Vec<u8>) -> Result<(), All
     Ok(())
 }
 
-fn grow(stream: &mut Vec<u8>, bytes: &[u8]) -> Result<(), HostFault> {
+pub(crate) fn grow(stream: &mut Vec<u8>, bytes: &[u8]) -> Result<(), HostFault> {
     stream.extend_from_slice(bytes)?;
     Ok(())
 }
@@ -111,13 +116,13 @@ impl InMemory {
         Ok(it)
     }
 
-    pub(crate) fn path(&mut self, alloc: Global, name: &str) -> Result<String, HostFault> {
+    pub(crate) fn path_of(&mut self, alloc: Global, name: &str) -> Result<String, HostFault> {
         self.pass()?;
         let path = String::from_str(alloc, name)?;
         Ok(path)
     }
 
-    pub(crate) fn look(&mut self, alloc: Global, most: usize) -> Result<Vec<u8>, HostFault>
+    pub(crate) fn file_bytes(&mut self, alloc: Global, most: usize) -> Result<Vec<u8>, HostFault>
         ensures { IfOk result (λ it. length it.items ≤ most + 1) }
     {
         if let Err(fault) = self.pass() {
@@ -127,134 +132,5 @@ impl InMemory {
             Some(file) => first_of(alloc, file, most),
             None => Err(HostFault::Absent),
         }
-    }
-
-    pub(crate) fn take_input(&mut self, alloc: Global, most: usize) -> Result<Vec<u8>, HostFault>
-        ensures { IfOk result (λ it. length it.items ≤ most + 1) }
-    {
-        if let Err(fault) = self.pass() {
-            return Err(fault);
-        }
-        first_of(alloc, &self.input, most)
-    }
-
-    pub(crate) fn make_beside(&mut self, alloc: Global) -> Result<(), HostFault> {
-        self.pass()?;
-        self.beside = Some(Vec::new(alloc));
-        self.beside_time = 0;
-        Ok(())
-    }
-
-    pub(crate) fn write_beside(&mut self, bytes: &[u8]) -> Result<(), HostFault> {
-        self.pass()?;
-        match &mut self.beside {
-            Some(beside) => {
-                self.beside_time = 0;
-                grow(beside, bytes)
-            }
-            None => Err(HostFault::Absent),
-        }
-    }
-
-    pub(crate) fn date_beside(&mut self, seconds: u64) -> Result<(), HostFault> {
-        self.pass()?;
-        self.beside_time = seconds;
-        Ok(())
-    }
-
-    pub(crate) fn time_of(&mut self) -> Result<u64, HostFault> {
-        self.pass()?;
-        match &self.file {
-            Some(_) => Ok(self.time),
-            None => Err(HostFault::Absent),
-        }
-    }
-
-    pub(crate) fn drop_beside(&mut self) -> Result<(), HostFault> {
-        self.pass()?;
-        self.beside = None;
-        Ok(())
-    }
-
-    pub(crate) fn rename(&mut self) -> Result<(), RenameFault> {
-        if let Err(why) = self.pass() {
-            return Err(RenameFault::Failed(why));
-        }
-        if self.is_mount {
-            return Err(RenameFault::Mount);
-        }
-        match self.beside.take() {
-            Some(beside) => {
-                self.file = Some(beside);
-                self.time = self.beside_time;
-                Ok(())
-            }
-            None => Err(RenameFault::Failed(HostFault::Absent)),
-        }
-    }
-
-    pub(crate) fn link(&mut self) -> Result<(), LinkFault> {
-        if let Err(why) = self.pass() {
-            return Err(LinkFault::Failed(why));
-        }
-        if self.file.is_some() {
-            return Err(LinkFault::Exists);
-        }
-        if !self.has_links {
-            return Err(LinkFault::NoLinks);
-        }
-        self.file = self.beside.take();
-        self.time = self.beside_time;
-        Ok(())
-    }
-
-    pub(crate) fn claim(&mut self) -> Result<(), HostFault> {
-        self.pass()?;
-        if self.file.is_some() {
-            return Err(HostFault::Busy);
-        }
-        self.file = Some(Vec::new(self.alloc));
-        Ok(())
-    }
-
-    pub(crate) fn drop_claim(&mut self) -> Result<(), HostFault> {
-        self.pass()?;
-        self.file = None;
-        Ok(())
-    }
-
-    pub(crate) fn write_over(&mut self, at: usize, bytes: &[u8]) -> Result<(), HostFault> {
-        self.pass()?;
-        let mut laid = Vec::new(self.alloc);
-        let old: &[u8] = match &self.file {
-            Some(file) => file,
-            None => &[],
-        };
-        over(old, at, bytes, &mut laid)?;
-        self.file = Some(laid);
-        Ok(())
-    }
-
-    pub(crate) fn cut(&mut self, size: usize) -> Result<(), HostFault> {
-        self.pass()?;
-        match &mut self.file {
-            Some(file) => {
-                file.truncate(size);
-                Ok(())
-            }
-            None => Err(HostFault::Absent),
-        }
-    }
-
-    pub(crate) fn print(&mut self, bytes: &[u8]) -> Result<(), PrintFault> {
-        if self.pass().is_err() || grow(&mut self.output, bytes).is_err() {
-            return Err(PrintFault::Failed);
-        }
-        Ok(())
-    }
-
-    pub(crate) fn tell(&mut self, text: &[u8]) -> Result<(), HostFault> {
-        self.pass()?;
-        grow(&mut self.errors, text)
     }
 }

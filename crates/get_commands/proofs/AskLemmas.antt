@@ -7,8 +7,8 @@ use Rattle.hosts.specs.Streams.{read}
 use Rattle.hosts.specs.declared.faults.HostFault.{HostFault}
 use Rattle.os8_dir.specs.declared.file_faults.FileFault.{FileFault}
 use Rattle.os8_dir.specs.declared.file_faults.FileFault.TheVariants.{BadName, NotFound}
-use Rattle.script8.specs.Replies.{fault_line}
-use Rattle.script8.specs.declared.faults.SessionFault.TheVariants.{File}
+use Rattle.refusals.specs.Faults.{fault_line}
+use Rattle.refusals.specs.declared.faults.SessionFault.TheVariants.{File}
 use Rattle.archive_many.specs.Opened.{OpensVolume}
 use Rattle.archive_many.specs.declared.opened.VolumeFile.{VolumeFile}
 use Rattle.archive_many.specs.declared.wishes.Wish.{Wish}

@@ -10,14 +10,14 @@ use Rattle.archive_many.specs.declared.faults.BlocksFault.TheVariants.{Archive, 
 use Rattle.program_reports.specs.Program.{program_line}
 use Rattle.program_reports.specs.declared.programs.ProgramLine.TheVariants as line
 use Rattle.program_tasks.specs.declared.forms.BlocksForm.{BlocksForm}
-use Rattle.program_tasks.specs.declared.forms.FileForm.{FileForm}
+use Rattle.archive_files.specs.declared.asking.Asked.{Asked}
 use Rattle.program_tasks.specs.declared.forms.ImageForm.{ImageForm}
 use Rattle.image_files.specs.Answers.{Answers, AreLines, RefusesBlocks}
 use Rattle.image_files.specs.Ending.{TellsLine}
 use Rattle.image_files.specs.Reading.{LooksAt}
 use Rattle.image_files.specs.Saving.{Prints}
 use Rattle.get_commands.specs.Showing.{Shows}
-use Rattle.asked_files.specs.Asking.{wanted_file}
+use Rattle.archive_files.specs.Asking.{target_of}
 use Rattle.get_commands.specs.ShowingParts.{EndsTelling, GivesBlocks, GivesTape, PrintsTape, ShowsBlocks, ShowsTape}
 use Rattle.image_files.specs.Work.{Then, Purely}
 use Rattle.image_files.specs.Laws.{KeepsFiles, ChangesNothing}
@@ -51,9 +51,9 @@ prints-tape-never : (bin : Vec ℕ × ℕ) → KeepsFiles (PrintsTape bin)
 prints-tape-never bin = then-keeps (Purely (AreLines (program_line (line.Start bin.1)))) (λ start. Then (Prints bin.0.items) (λ it. EndsTelling start.items)) (purely-keeps (AreLines (program_line (line.Start bin.1))))
     (λ start. then-keeps (Prints bin.0.items) (λ it. EndsTelling start.items) (prints-keeps bin.0.items) (λ it. ends-telling-never start.items))
 
-pub tape-never : (file : FileForm) (form : ImageForm) → KeepsFiles (ShowsTape file form)
+pub tape-never : (file : Asked) (form : ImageForm) → KeepsFiles (ShowsTape file form)
 tape-never file form =
-    then-keeps (LooksAt form) (λ image. Then (Answers (Gets image.items (wanted_file file) Frames) (length image.items)) (λ frames. Then (Purely (GivesTape frames.items)) PrintsTape)) (looks-at-keeps form)
-    (λ image. then-keeps (Answers (Gets image.items (wanted_file file) Frames) (length image.items)) (λ frames. Then (Purely (GivesTape frames.items)) PrintsTape)
-    (answers-never (Gets image.items (wanted_file file) Frames) (length image.items))
+    then-keeps (LooksAt form) (λ image. Then (Answers (Gets image.items (target_of file) Frames) (length image.items)) (λ frames. Then (Purely (GivesTape frames.items)) PrintsTape)) (looks-at-keeps form)
+    (λ image. then-keeps (Answers (Gets image.items (target_of file) Frames) (length image.items)) (λ frames. Then (Purely (GivesTape frames.items)) PrintsTape)
+    (answers-never (Gets image.items (target_of file) Frames) (length image.items))
     (λ frames. then-keeps (Purely (GivesTape frames.items)) PrintsTape (purely-keeps (GivesTape frames.items)) prints-tape-never))

@@ -17,9 +17,9 @@ use Rattle.os8_dates.specs.declared.days.TheConstants.{NO_DATE}
 use Rattle.os8_dates.specs.Days.{time_of_word}
 use Rattle.os8_dir.specs.declared.file_faults.FileFault.{FileFault}
 use Rattle.os8_dir.specs.declared.file_faults.FileFault.TheVariants.{BadName, NotFound}
-use Rattle.script8.specs.Replies.{fault_line}
-use Rattle.script8.specs.declared.faults.SessionFault.{SessionFault}
-use Rattle.script8.specs.declared.faults.SessionFault.TheVariants.{File, Memory}
+use Rattle.refusals.specs.Faults.{fault_line}
+use Rattle.refusals.specs.declared.faults.SessionFault.{SessionFault}
+use Rattle.refusals.specs.declared.faults.SessionFault.TheVariants.{File, Memory}
 use Rattle.archive_many.specs.HostNames.{NamesHost, is_slash}
 use Rattle.archive_many.specs.Opened.{GetsFile, OpensVolume, files_on, first_word}
 use Rattle.archive_many.specs.declared.opened.VolumeFile.{VolumeFile}

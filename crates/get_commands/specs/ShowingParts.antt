@@ -15,14 +15,14 @@ use Rattle.program_reports.specs.declared.programs.ProgramLine.TheVariants as li
 use Rattle.outcome.specs.declared.endings.Ending.{Ending}
 use Rattle.outcome.specs.declared.endings.Ending.TheVariants.{Line}
 use Rattle.program_tasks.specs.declared.forms.BlocksForm.{BlocksForm}
-use Rattle.program_tasks.specs.declared.forms.FileForm.{FileForm}
+use Rattle.archive_files.specs.declared.asking.Asked.{Asked}
 use Rattle.program_tasks.specs.declared.forms.ImageForm.{ImageForm}
 use Rattle.image_files.specs.Work.{Then, Purely}
 use Rattle.image_files.specs.Reading.{LooksAt}
 use Rattle.image_files.specs.Answers.{Answers, AreLines, RefusesBlocks}
 use Rattle.image_files.specs.Ending.{TellsLine}
 use Rattle.image_files.specs.Saving.{Prints, IsDone}
-use Rattle.asked_files.specs.Asking.{wanted_file}
+use Rattle.archive_files.specs.Asking.{target_of}
 
 -- what blocks of an image give, whatever its directory says, or why nothing
 abbrev pub GivesBlocks : BlocksForm → List ℕ → List Event → Result (Vec ℕ) Ending → List Event → Type 0
@@ -48,5 +48,5 @@ PrintsTape bin = Then (Purely (AreLines (program_line (line.Start bin.1)))) (λ 
 
 -- An image file is read. The BIN tape of the core image that a file of its volume is, is printed, with nothing else on standard output, and
 -- then where its program starts. No file changes.
-abbrev pub ShowsTape : FileForm → ImageForm → List Event → Result (Unit {0}) Ending → List Event → Type 0
-ShowsTape file form = Then (LooksAt form) (λ image. Then (Answers (Gets image.items (wanted_file file) Frames) (length image.items)) (λ frames. Then (Purely (GivesTape frames.items)) PrintsTape))
+abbrev pub ShowsTape : Asked → ImageForm → List Event → Result (Unit {0}) Ending → List Event → Type 0
+ShowsTape file form = Then (LooksAt form) (λ image. Then (Answers (Gets image.items (target_of file) Frames) (length image.items)) (λ frames. Then (Purely (GivesTape frames.items)) PrintsTape))

@@ -4,8 +4,8 @@ use Rattle.std.specs.Global.{Global, Vec}
 use Rattle.hosts.specs.Event.{Event}
 use Rattle.char_pack.specs.declared.forms.GetForm.TheVariants as get_as
 use Rattle.os8_dir.specs.declared.file_faults.FileFault.TheVariants.{NotFound}
-use Rattle.script8.specs.declared.faults.SessionFault.{SessionFault}
-use Rattle.script8.specs.declared.faults.SessionFault.TheVariants.{Memory}
+use Rattle.refusals.specs.declared.faults.SessionFault.{SessionFault}
+use Rattle.refusals.specs.declared.faults.SessionFault.TheVariants.{Memory}
 use Rattle.archive_many.specs.HostNames.{NamesHost}
 use Rattle.archive_many.specs.Opened.{GetsFile, OpensVolume, files_on}
 use Rattle.archive_many.specs.Wishing.{found_files, wishes_of}
@@ -20,7 +20,7 @@ use Rattle.image_files.specs.Reading.{LooksAt}
 use Rattle.image_files.specs.Answers.{Answers, AreLines}
 use Rattle.image_files.specs.Ending.{EndsSound, TellsLine}
 use Rattle.image_files.specs.Saving.{Prints}
-use Rattle.asked_files.specs.Refusals.{refusal_for, refusal_of}
+use Rattle.asked_files.specs.UnfoundWords.{refusal_for, refusal_of}
 
 -- ## A text
 

@@ -1,8 +1,8 @@
 //! The command that writes several files of the volume in an image file to a folder of the host, each whole or not at all.
 ghost use Rattle.std.specs.Prelude.{◌≡◌, ◌<◌, ◌&&◌, ◌++◌, codes, decimal, false, length, map, slice_get, true, IfOk};
-ghost use Rattle.script8.specs.Replies.{fault_line};
+ghost use Rattle.refusals.specs.Faults.{fault_line};
 ghost use Rattle.os8_dir.specs.declared.file_faults.FileFault.TheVariants.{NotFound};
-ghost use Rattle.script8.specs.declared.faults.SessionFault.TheVariants as session;
+ghost use Rattle.refusals.specs.declared.faults.SessionFault.TheVariants as session;
 ghost use Rattle.image_files.specs.Answers.{named_lines};
 ghost use Rattle.image_files.specs.Work.{Then};
 ghost use Rattle.host_progress.specs.Progressing.{TellsProgress, WithProgress};
@@ -20,7 +20,7 @@ use os8_dir::FileFault;
 use outcome::Ending;
 use program_reports::ProgramLine;
 use program_tasks::GetManyForm;
-use script8::SessionFault;
+use refusals::SessionFault;
 use std::alloc::{AllocError, Global};
 
 /// Writes files of the volume in an image file to a folder, and reports each. The image file doesn't change.

@@ -2,8 +2,8 @@
 ghost use Rattle.std.specs.Prelude.{◌≡◌, false, true};
 ghost use Rattle.program_reports.specs.Program.{program_line};
 ghost use Rattle.program_reports.specs.declared.programs.ProgramLine.TheVariants.{Got};
-ghost use Rattle.script8.specs.Replies.{fault_line};
-ghost use Rattle.script8.specs.declared.faults.SessionFault.TheVariants.{File};
+ghost use Rattle.refusals.specs.Faults.{fault_line};
+ghost use Rattle.refusals.specs.declared.faults.SessionFault.TheVariants.{File};
 ghost use Rattle.image_files.specs.Answers.{AreLines, named_lines};
 ghost use Rattle.get_commands.specs.GettingMany as spec;
 ghost use Rattle.get_commands.specs.GettingMany.{GivesFile, IsPath, LaysAndTells, LaysApart, LaysFile, PrintsAnswer, RefusesOver, TakesFile, IsHostName, TellsLaid, GivesNoted, NotesGot, TellsGot};
@@ -19,7 +19,7 @@ use os8_dir::FileFault;
 use outcome::{Ending, NameNote, Note};
 use program_reports::ProgramLine;
 use program_tasks::GetManyForm;
-use script8::{SessionFault, put_reply};
+use refusals::{SessionFault, put_fault};
 use std::alloc::Global;
 use volume_index::last_of;
 
@@ -316,7 +316,7 @@ fn fault_text(alloc: Global, why: FileFault) -> Result<Vec<u8>, Ending>
     ensures { AreLines (fault_line (File why)) result }
 {
     let mut text = Vec::new(alloc);
-    put_reply(None, &Err(SessionFault::File(why)), &mut text)?;
+    put_fault(SessionFault::File(why), &mut text)?;
     Ok(text)
 }
 

@@ -3,10 +3,10 @@ ghost use Rattle.std.specs.Prelude.{◌≡◌, false};
 ghost use Rattle.archive_files.specs.Getting.{Gets};
 ghost use Rattle.char_pack.specs.declared.forms.GetForm.{GetForm as How};
 ghost use Rattle.program_tasks.specs.declared.forms.BlocksForm.{BlocksForm as Blocks};
-ghost use Rattle.program_tasks.specs.declared.forms.FileForm.{FileForm as File};
+ghost use Rattle.archive_files.specs.declared.asking.Asked.{Asked as File};
 ghost use Rattle.program_tasks.specs.declared.forms.GetManyForm.{GetManyForm as GetMany};
 ghost use Rattle.program_tasks.specs.declared.forms.ImageForm.{ImageForm as Image};
-ghost use Rattle.asked_files.specs.Asking.{wanted_file};
+ghost use Rattle.archive_files.specs.Asking.{target_of};
 ghost use Rattle.image_files.specs.Laws.{KeepsFiles, NeverReplaces};
 ghost use Rattle.get_commands.specs.GettingMany.{GetsMany};
 ghost use Rattle.get_commands.specs.Laws.{ChangesIn, KeepsImage};
@@ -15,7 +15,7 @@ ghost use Rattle.get_commands.specs.ShowingParts.{ShowsBlocks, ShowsTape};
 
 /// A command that shows what an image has changes no file, in whichever way it ends.
 pub fn shown_files()
-    ensures gets { (file : File) (how : How) (form : Image) → KeepsFiles (Shows (λ bytes. Gets bytes (wanted_file file) how) form) }
+    ensures gets { (file : File) (how : How) (form : Image) → KeepsFiles (Shows (λ bytes. Gets bytes (target_of file) how) form) }
     ensures blocks { (form : Blocks) → KeepsFiles (ShowsBlocks form) }
     ensures tape { (file : File) (form : Image) → KeepsFiles (ShowsTape file form) }
 {}

@@ -1,14 +1,13 @@
 //! The commands that print blocks of an image, or the BIN tape of a core image on its volume. No file changes.
 ghost use Rattle.get_commands.specs.ShowingParts.{GivesBlocks, GivesTape, PrintsTape, ShowsBlocks, ShowsTape};
 
-use archive_files::GetForm;
+use archive_files::{Asked, GetForm};
 use archive_many::{BlocksFault, blocks_of};
-use asked_files::file_asked;
 use hosts::Host;
 use image_files::{look_at, print, program_line, refuse_image, show_file, tell_line};
 use outcome::Ending;
 use program_reports::{ProgramLine, core_tape};
-use program_tasks::{BlocksForm, FileForm, ImageForm};
+use program_tasks::{BlocksForm, ImageForm};
 use std::alloc::Global;
 use word12::Cell;
 
@@ -43,13 +42,12 @@ pub fn get_bin<H: Host>(
     host: &mut H,
     alloc: Global,
     image: &ImageForm,
-    file: FileForm,
+    file: Asked,
 ) -> Result<(), Ending>
     ensures { ShowsTape file image.now (H.history host.old) result (H.history host.new) }
 {
-    let asked = file_asked(file);
     let bytes = look_at(host, alloc, image)?;
-    let frames = show_file(host, alloc, &bytes, &asked, GetForm::Frames)?;
+    let frames = show_file(host, alloc, &bytes, &file, GetForm::Frames)?;
     let bin = tape_of(alloc, &frames)?;
     print_tape(host, alloc, bin)
 }

@@ -21,12 +21,12 @@ impl Before for Brand {
     ghost calls = { [] };
 }
 
-/// A host whose standard output is a writer. What is written to it is printed at once, and nothing else is asked of the host meanwhile. A
-/// contract sees the host.
+/// A host whose standard output is a writer. What is written to it is printed at once, and nothing else is asked of the host meanwhile. After
+/// a print that failed nothing more is printed. A contract sees the host.
 pub struct Printer<H: Host, B: Before> {
     host: H,
 
-    /// Why its last write that failed did.
+    /// Why its last write failed, if it did.
     fault: Option<PrintFault>,
     before: PhantomData<B>,
 }
@@ -56,7 +56,7 @@ impl<H: Host, B: Before> Printer<H, B> {
         }
     }
 
-    /// Gives the host back, and why the last write that failed did.
+    /// Gives the host back, and why the last write failed, if it did.
     pub fn finish(self) -> (H, Option<PrintFault>)
         ensures host { result.0 ≡ self.0 }
         ensures fault { result.1 ≡ self.1 }
@@ -77,6 +77,9 @@ impl<H: Host, B: Before> Output for Printer<H, B> {
     ghost has_failed = { λ it. is_some it.1 ≡ true };
 
     fn put(&mut self, bytes: &[u8]) -> io::Result<()> {
+        if self.fault.is_some() {
+            return Err(io::Error::from(ErrorKind::Other));
+        }
         match self.host.print(bytes) {
             Ok(()) => Ok(()),
             Err(fault) => {

@@ -3,7 +3,7 @@ ghost use Rattle.std.specs.Prelude.{◌≡◌};
 ghost use Rattle.host_progress.specs.Progressing.{BeginsProgress, EndsPrinted, EndsProgress, TellsDone, TellsOnce};
 
 use hosts::{Host, Stream};
-use script8::text_lines::{TextLine, put, put_number};
+use refusals::text_lines::{TextLine, put, put_number};
 
 /// How many seconds a command works before it prints how far it is.
 const PATIENCE: u64 = 2;

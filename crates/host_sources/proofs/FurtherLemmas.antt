@@ -10,7 +10,7 @@ use Rattle.pal_lex.specs.Reading.{with_tokens}
 use Rattle.pal_lex.specs.declared.phrases.Body.{Body}
 use Rattle.pal_lex.specs.declared.phrases.Statement.{Statement}
 use Rattle.pal_lex.specs.declared.pieces.Token.{Token}
-use Rattle.pal_asm.specs.declared.faults.Code.{Code}
+use Rattle.pal_faults.specs.declared.assembling.Code.{Code}
 use Rattle.pal_asm.specs.Expressions.{Meanings}
 use Rattle.pal_asm.specs.Places.{Source, with_tags as tag_values, values, place_at}
 use Rattle.pal_asm.specs.Words.{word_values}

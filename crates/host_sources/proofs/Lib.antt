@@ -12,3 +12,5 @@ pub mod FurtherLemmas
 pub mod UnknownLemmas
 pub mod SymbolLemmas
 pub mod FirstLemmas
+pub mod StartLemmas
+pub mod RunLemmas

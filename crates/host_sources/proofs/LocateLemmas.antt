@@ -6,16 +6,17 @@ use Rattle.pal_lex.specs.Statements.{statements, first_fault, judge_statement, r
 use Rattle.pal_lex.specs.Laws.{EndsSource}
 use Rattle.pal_lex.specs.Reading.{HasRead, Answers, HandsOut, is_pause_body, tokens_after, with_tokens}
 use Rattle.pal_lex.specs.Progress.{Progress}
-use Rattle.pal_lex.specs.declared.faults.LexFault.{LexFault}
+use Rattle.pal_faults.specs.declared.lexical.LexFault.{LexFault}
 use Rattle.pal_lex.specs.declared.phrases.Body.{Body}
 use Rattle.pal_lex.specs.declared.phrases.Body.TheVariants.{Nothing, Origin, Define, Decimal, Octal, Pause, Field, Reference, Word}
 use Rattle.pal_lex.specs.declared.phrases.Statement.{Statement}
-use Rattle.pal_asm.specs.declared.faults.AsmFault.{AsmFault}
-use Rattle.pal_asm.specs.declared.faults.AsmFault.TheVariants.{At, Memory}
+use Rattle.pal_faults.specs.declared.assembling.AsmFault.{AsmFault}
+use Rattle.pal_faults.specs.declared.assembling.AsmFault.TheVariants.{At, Memory}
 use Rattle.pal_asm.specs.Expressions.{Meanings}
 use Rattle.pal_asm.specs.Places.{Source, is_word, place_at, values}
 use Rattle.pal_asm.specs.Words.{word_values}
-use Rattle.pal_asm.specs.Faults.{first_of, at_line, lexical, statement_fault, first_order, word_fault, words_fault, has_word, no_word}
+use Rattle.pal_asm.specs.Faults.{first_of, at_line, statement_fault, first_order, word_fault, words_fault, has_word, no_word}
+use Rattle.pal_faults.specs.Faults.{lexical}
 use Rattle.pal_asm.specs.Laws.{LexicalFaultIsTold, NoLexicalFault, NoFaultBefore}
 use Rattle.pal_asm.specs.Laws as asm_laws
 use Rattle.pal_asm.specs.Progress as asm

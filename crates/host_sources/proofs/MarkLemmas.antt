@@ -2,7 +2,7 @@
 use Rattle.std.proofs.Common.{◌≡◌, ℕ, ◌+◌, ◌<◌, Bool, true, false, Option, None, length, take, get_or, List, refl, ap, sym, ◌∙◌}
 use Rattle.pal_lex.specs.Text.{is_over, text_of}
 use Rattle.pal_lex.specs.Statements.{statements}
-use Rattle.pal_asm.specs.declared.faults.Code.{Code}
+use Rattle.pal_faults.specs.declared.assembling.Code.{Code}
 use Rattle.pal_asm.specs.Faults.{first_order}
 use Rattle.pal_asm.specs.Places.{values}
 use Rattle.source_places.specs.declared.subjects.About.TheVariants.{Nothing}

@@ -8,7 +8,7 @@ use Rattle.host_sources.specs.Places.{shortest, is_refused}
 use Rattle.host_sources.specs.Mending.{up_to_comma, body_place, end_place, with_erasure, turns, harmless}
 use Rattle.host_sources.specs.MendSteps.{comma_by, erased_byte, Mends, GoesOn, Advances}
 use Rattle.host_sources.specs.Marks.{at_mark, fault_mark}
-use Rattle.pal_asm.specs.declared.faults.Code.{Code}
+use Rattle.pal_faults.specs.declared.assembling.Code.{Code}
 use Rattle.std.specs.Global.{Vec}
 use Rattle.host_sources.specs.Lexical.{lexical_code, lexical_by, lexical_fault, lexical_further, lexical_with}
 use Rattle.host_sources.specs.Steps.{IsMetAt}

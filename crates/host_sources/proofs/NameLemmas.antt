@@ -14,8 +14,8 @@ use Rattle.pal_lex.specs.declared.phrases.Part.{Part}
 use Rattle.pal_lex.specs.declared.phrases.Body.{Body}
 use Rattle.pal_lex.specs.declared.phrases.Body.TheVariants.{Nothing, Origin, Define, Decimal, Octal, Pause, Field, Reference, Word}
 use Rattle.pal_lex.specs.declared.phrases.Statement.{Statement}
-use Rattle.pal_asm.specs.declared.faults.Code.{Code}
-use Rattle.pal_asm.specs.declared.faults.Code.TheVariants.{PF}
+use Rattle.pal_faults.specs.declared.assembling.Code.{Code}
+use Rattle.pal_faults.specs.declared.assembling.Code.TheVariants.{PF}
 use Rattle.pal_asm.specs.Expressions.{Meanings, term_value, join_values, joined_values, value_after, value_of}
 use Rattle.pal_asm.specs.Places.{Source, set_by, sets_location, is_word, with_tags as tag_values, with_body as body_values, place_at, last_setting, words_since, values, values_at, is_fixed_at}
 use Rattle.pal_asm.specs.Faults.{first_of, past, fault_of_name, term_fault, terms_fault, body_fault, tags_fault, statement_fault, at_line, first_order}

@@ -9,8 +9,8 @@ use Rattle.pal_lex.specs.Joins.{is_pause, pauses, IsClear, first_text, before_pa
 use Rattle.pal_lex.specs.Laws.{PauseIsBad}
 use Rattle.pal_lex.specs.Reading.{HasRead, Answers, TellsFault, HandsOut, is_pause_body, tokens_after, with_tokens}
 use Rattle.pal_lex.specs.Progress.{Progress}
-use Rattle.pal_lex.specs.declared.faults.LexFault.{LexFault}
-use Rattle.pal_lex.specs.declared.faults.LexFault.TheVariants as lex
+use Rattle.pal_faults.specs.declared.lexical.LexFault.{LexFault}
+use Rattle.pal_faults.specs.declared.lexical.LexFault.TheVariants as lex
 use Rattle.pal_lex.specs.declared.phrases.Statement.{Statement}
 use Rattle.host_sources.specs.Steps.{is_memory, end_by, Meets, is_pause_met, ends_text, Renews, IsPrefix}
 use Rattle.host_sources.specs.declared.pauses.Met.{Met}

@@ -6,7 +6,7 @@ use Rattle.pal_lex.specs.declared.runs.Radix.{Radix}
 use Rattle.pal_lex.specs.declared.runs.Radix.TheVariants as radix
 use Rattle.pal_lex.specs.declared.phrases.Body.{Body}
 use Rattle.pal_lex.specs.declared.phrases.Body.TheVariants as body
-use Rattle.statement_runs.specs.Runs.{base_of}
+use Rattle.host_sources.specs.RunSteps.{base_of}
 use Rattle.host_sources.specs.RadixSteps.{is_decimal, decimal_by}
 
 pub decimal_after : (s : Body) (r : Radix) → decimal_by s (is_decimal r) ≡ is_decimal (radix_by s r)

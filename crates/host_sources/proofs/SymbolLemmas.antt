@@ -15,7 +15,8 @@ use Rattle.pal_lex.specs.declared.phrases.Body.{Body}
 use Rattle.pal_lex.specs.declared.phrases.Body.TheVariants.{Nothing, Origin, Define, Decimal, Octal, Pause, Field, Reference, Word}
 use Rattle.pal_asm.specs.Expressions.{value_of}
 use Rattle.pal_asm.specs.Places.{Source, with_tags as tag_values, place_at, values, values_at, is_fixed_at}
-use Rattle.pal_asm.specs.Faults.{first_of, at_line, lexical, statement_fault, first_order, words_fault, no_end, no_word}
+use Rattle.pal_asm.specs.Faults.{first_of, at_line, statement_fault, first_order, words_fault, no_end, no_word}
+use Rattle.pal_faults.specs.Faults.{lexical}
 use Rattle.host_sources.specs.Sources.{newest_first}
 use Rattle.host_sources.specs.Symbols.{Entries, with_value, with_tags, with_body, symbols_of}
 use Rattle.host_sources.specs.NameSteps.{values_by}

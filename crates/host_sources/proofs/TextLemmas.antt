@@ -2,7 +2,7 @@
 use Rattle.std.proofs.Common.{◌≡◌, ℕ, ◌+◌, ◌≤◌, ◌<◌, Bool, length, take, get_or, List, [], ◌∷◌, ap, sym, ◌∙◌, arith}
 use Rattle.std.proofs.lemmas.List.{length-take-le, take_all}
 use Rattle.pal_lex.specs.Text.{in_comment, text_from, text_of}
-use Rattle.statement_runs.specs.Starts.{comment_by}
+use Rattle.host_sources.specs.StartSteps.{comment_by}
 use Rattle.host_sources.proofs.PauseLemmas.{next_byte}
 
 pub length_from : (bytes text : List ℕ) → length (text_from text bytes) ≡ length bytes + length text

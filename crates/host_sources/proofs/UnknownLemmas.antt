@@ -9,9 +9,9 @@ use Rattle.pal_lex.specs.Text.{is_over, ends_statement, text_of}
 use Rattle.pal_lex.specs.Statements.{statements, first_fault, first_of}
 use Rattle.pal_lex.specs.Reading.{Answers, tokens_after, with_tokens}
 use Rattle.pal_lex.specs.Progress.{Progress}
-use Rattle.pal_lex.specs.declared.faults.LexFault.{LexFault}
+use Rattle.pal_faults.specs.declared.lexical.LexFault.{LexFault}
 use Rattle.pal_lex.specs.declared.phrases.Statement.{Statement}
-use Rattle.pal_asm.specs.declared.faults.AsmFault.{AsmFault}
+use Rattle.pal_faults.specs.declared.assembling.AsmFault.{AsmFault}
 use Rattle.pal_asm.specs.Places.{Source, values, values_at}
 use Rattle.pal_asm.specs.Words.{word_values}
 use Rattle.pal_asm.specs.Faults.{first_order}

@@ -6,7 +6,7 @@ use Rattle.pal_lex.specs.Text.{text_of}
 use Rattle.pal_asm.specs.Words.{pairs_of}
 use Rattle.pal_asm.specs.Texts.{ArePairsOf}
 use Rattle.pal_asm.specs.Faults.{fault_of}
-use Rattle.pal_asm.specs.declared.faults.AsmFault.TheVariants as asm
+use Rattle.pal_faults.specs.declared.assembling.AsmFault.TheVariants as asm
 use Rattle.source_places.specs.declared.places.Place.{Place}
 use Rattle.source_places.specs.declared.subjects.About.{About}
 use Rattle.host_sources.specs.declared.assembling.Assembly.{Assembly}
@@ -16,7 +16,7 @@ use Rattle.host_sources.specs.Sources.{texts_of, newest_first, counts_of}
 use Rattle.host_sources.specs.Places.{place_at_byte}
 use Rattle.host_sources.specs.Marks.{fault_mark}
 use Rattle.host_sources.specs.declared.marks.Mark.{Mark}
-use Rattle.pal_asm.specs.declared.faults.Code.{Code}
+use Rattle.pal_faults.specs.declared.assembling.Code.{Code}
 use Rattle.host_sources.specs.Unknowns.{unknown_name, about}
 
 -- The sources have no fault, and this is the text that they join to, with how much of each is in it, and its words.

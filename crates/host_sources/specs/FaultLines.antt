@@ -1,8 +1,8 @@
 -- The text of a fault, as a compiler prints it (this project's profile of PAL III).
 use Rattle.std.specs.Prelude.{ℕ, codes, decimal, List, ◌++◌}
 use Rattle.std.specs.Borrow.{Bor}
-use Rattle.pal_asm.specs.declared.faults.Code.{Code}
-use Rattle.pal_asm.specs.declared.faults.Code.TheVariants.{IC, SY, NU, UA, DT, RD, IR, FD, PF, NE, NW}
+use Rattle.pal_faults.specs.declared.assembling.Code.{Code}
+use Rattle.pal_faults.specs.declared.assembling.Code.TheVariants.{IC, SY, NU, UA, DT, RD, IR, FD, PF, NE, NW}
 use Rattle.source_places.specs.Places.{bytes_of}
 use Rattle.source_places.specs.Showing.{about_text, place_text, marked_line}
 use Rattle.host_sources.specs.declared.faults.Fault.{Fault}

@@ -3,7 +3,7 @@ use Rattle.std.specs.Prelude.{ℕ, ◌||◌, not, if◌then◌else◌, Option, S
 use Rattle.std.specs.Borrow.{Bor}
 use Rattle.pal_lex.specs.Text.{is_over, ends_statement}
 use Rattle.pal_lex.specs.Statements.{statements}
-use Rattle.pal_asm.specs.declared.faults.Code.{Code}
+use Rattle.pal_faults.specs.declared.assembling.Code.{Code}
 use Rattle.pal_asm.specs.Expressions.{Meanings}
 use Rattle.pal_asm.specs.Places.{Source, place_at, values}
 use Rattle.pal_asm.specs.Words.{word_values}

@@ -2,7 +2,7 @@
 use Rattle.std.specs.Prelude.{◌≡◌, ℕ, Option, take, List, [], ◌∷◌}
 use Rattle.std.specs.BTreeMap.{BTreeMap}
 use Rattle.pal_sym.specs.Values.{if_none}
-use Rattle.pal_asm.specs.declared.faults.Code.{Code}
+use Rattle.pal_faults.specs.declared.assembling.Code.{Code}
 use Rattle.pal_asm.specs.Expressions.{Meanings}
 use Rattle.pal_asm.specs.Places.{Source, values_at}
 use Rattle.pal_lex.specs.Text.{text_of}

@@ -9,7 +9,7 @@ use Rattle.pal_sym.specs.Values.{if_none}
 use Rattle.pal_lex.specs.Text.{is_over, text_of}
 use Rattle.pal_lex.specs.Statements.{statements}
 use Rattle.pal_lex.specs.declared.phrases.Part.{Part}
-use Rattle.pal_asm.specs.declared.faults.AsmFault.TheVariants.{At}
+use Rattle.pal_faults.specs.declared.assembling.AsmFault.TheVariants.{At}
 use Rattle.pal_asm.specs.Expressions.{Meanings, value_of}
 use Rattle.pal_asm.specs.Places.{values}
 use Rattle.pal_asm.specs.Faults.{terms_fault, first_order, fault_of}

@@ -1,9 +1,9 @@
 -- The faults after one of a character, a number or a statement's form (this project's profile of PAL III).
 use Rattle.std.specs.Prelude.{ℕ, Bool, true, false, ◌&&◌, not, if◌then◌else◌, Option, Some, None, is_some, zero, suc, List, [], ◌∷◌}
-use Rattle.pal_asm.specs.declared.faults.AsmFault.{AsmFault}
-use Rattle.pal_asm.specs.declared.faults.AsmFault.TheVariants.{At, Memory}
-use Rattle.pal_asm.specs.declared.faults.Code.{Code}
-use Rattle.pal_asm.specs.declared.faults.Code.TheVariants.{IC, SY, NU, UA, DT, RD, IR, FD, PF, NE, NW}
+use Rattle.pal_faults.specs.declared.assembling.AsmFault.{AsmFault}
+use Rattle.pal_faults.specs.declared.assembling.AsmFault.TheVariants.{At, Memory}
+use Rattle.pal_faults.specs.declared.assembling.Code.{Code}
+use Rattle.pal_faults.specs.declared.assembling.Code.TheVariants.{IC, SY, NU, UA, DT, RD, IR, FD, PF, NE, NW}
 use Rattle.pal_asm.specs.Faults.{fault_of}
 use Rattle.source_places.specs.declared.places.Place.{Place}
 use Rattle.host_sources.specs.Places.{shortest, is_refused}

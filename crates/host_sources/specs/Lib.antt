@@ -15,3 +15,7 @@ pub mod Laws
 pub mod RadixSteps
 pub mod MendSteps
 pub mod Steps
+pub mod Starts
+pub mod Runs
+pub mod StartSteps
+pub mod RunSteps

@@ -4,14 +4,14 @@ use Rattle.pal_lex.specs.Text.{stretch, is_over}
 use Rattle.pal_lex.specs.Cutting.{pieces}
 use Rattle.pal_lex.specs.Runs.{base}
 use Rattle.pal_lex.specs.Statements.{statements, radix_after}
-use Rattle.pal_asm.specs.declared.faults.Code.{Code}
-use Rattle.pal_asm.specs.declared.faults.Code.TheVariants.{IC, SY, NU, UA, DT, RD, IR, FD, PF, NE, NW}
+use Rattle.pal_faults.specs.declared.assembling.Code.{Code}
+use Rattle.pal_faults.specs.declared.assembling.Code.TheVariants.{IC, SY, NU, UA, DT, RD, IR, FD, PF, NE, NW}
 use Rattle.pal_asm.specs.Places.{values}
 use Rattle.source_places.specs.declared.places.Place.{Place}
 use Rattle.source_places.specs.declared.subjects.About.{About}
 use Rattle.source_places.specs.declared.subjects.About.TheVariants.{Nothing, Name, Character}
-use Rattle.statement_runs.specs.Starts.{start_of}
-use Rattle.statement_runs.specs.Runs.{first_illegal, first_run, is_name, is_bad_number}
+use Rattle.host_sources.specs.Starts.{start_of}
+use Rattle.host_sources.specs.Runs.{first_illegal, first_run, is_name, is_bad_number}
 use Rattle.host_sources.specs.Places.{shortest, is_refused, is_settled}
 use Rattle.host_sources.specs.declared.faults.Fault.{Fault}
 use Rattle.host_sources.specs.declared.marks.Mark.{Mark}

@@ -3,8 +3,8 @@ use Rattle.std.specs.Prelude.{ℕ, nat_eq, nat_lt, nat_le, Bool, false, ◌||◌
 use Rattle.std.specs.Option.{option_or}
 use Rattle.pal_lex.specs.Text.{is_dead, is_end, stretch}
 use Rattle.pal_lex.specs.Cutting.{pieces}
-use Rattle.statement_runs.specs.Starts.{start_of}
-use Rattle.statement_runs.specs.Runs.{first_run, sets_reading}
+use Rattle.host_sources.specs.Starts.{start_of}
+use Rattle.host_sources.specs.Runs.{first_run, sets_reading}
 use Rattle.host_sources.specs.Places.{shortest, is_refused}
 
 -- the statement that the newest byte of a text ends has a word that says how what follows is read

@@ -5,8 +5,8 @@ use Rattle.pal_lex.specs.Statements.{statements, first_fault}
 use Rattle.pal_lex.specs.Joins.{pauses, before_pause}
 use Rattle.pal_lex.specs.Reading.{HasRead, is_pause_body, with_tokens}
 use Rattle.pal_lex.specs.Progress.{Progress}
-use Rattle.pal_lex.specs.declared.faults.LexFault.{LexFault}
-use Rattle.pal_lex.specs.declared.faults.LexFault.TheVariants as lex
+use Rattle.pal_faults.specs.declared.lexical.LexFault.{LexFault}
+use Rattle.pal_faults.specs.declared.lexical.LexFault.TheVariants as lex
 use Rattle.pal_lex.specs.declared.phrases.Statement.{Statement}
 use Rattle.pal_lex.specs.declared.pieces.Token.{Token}
 use Rattle.pal_asm.specs.Places.{Source, values}

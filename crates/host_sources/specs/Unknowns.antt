@@ -8,8 +8,8 @@ use Rattle.pal_lex.specs.declared.pieces.Term.TheVariants.{Name, Number, Here}
 use Rattle.pal_lex.specs.declared.phrases.Part.{Part}
 use Rattle.pal_lex.specs.declared.phrases.Body.{Body}
 use Rattle.pal_lex.specs.declared.phrases.Body.TheVariants.{Nothing, Origin, Define, Decimal, Octal, Pause, Field, Reference, Word}
-use Rattle.pal_asm.specs.declared.faults.Code.{Code}
-use Rattle.pal_asm.specs.declared.faults.Code.TheVariants.{IC, SY, NU, UA, DT, RD, IR, FD, PF, NE, NW}
+use Rattle.pal_faults.specs.declared.assembling.Code.{Code}
+use Rattle.pal_faults.specs.declared.assembling.Code.TheVariants.{IC, SY, NU, UA, DT, RD, IR, FD, PF, NE, NW}
 use Rattle.pal_asm.specs.Expressions.{Meanings}
 use Rattle.pal_asm.specs.Places.{Source, values, values_at}
 use Rattle.pal_asm.specs.Words.{word_values}

@@ -5,6 +5,9 @@
 //! of a volume (PAL III Symbolic Assembler manual, and this project's profile of it). In each contract a text has its newest byte
 //! first.
 //!
+//! Where a fault is shown depends on the bytes of its statement: where that begins, its runs of letters and digits, its first byte that PAL III
+//! has not. What stands in a comment is no part of it.
+//!
 //! A crate that stands on it reads an [`Assembly`]: the text that sources join to, its words, its statements and its names. What shows a
 //! place of a source stands below it, in `source_places`.
 #![tactic(auto)]
@@ -24,6 +27,8 @@ mod names;
 mod pauses;
 mod radixes;
 mod reading;
+mod runs;
+mod starts;
 mod unknowns;
 
 pub use assembling::{Assembly, assemble_sources, assembly_of};

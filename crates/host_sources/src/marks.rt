@@ -3,7 +3,7 @@ ghost use Rattle.std.specs.Prelude.{◌≡◌, None, IfOk, IfErr};
 ghost use Rattle.pal_lex.specs.Text.{text_of};
 ghost use Rattle.pal_lex.specs.Statements.{statements};
 ghost use Rattle.pal_asm.specs.Faults.{first_order};
-ghost use Rattle.pal_asm.specs.declared.faults.Code.TheVariants.{NU};
+ghost use Rattle.pal_faults.specs.declared.assembling.Code.TheVariants.{NU};
 ghost use Rattle.host_sources.specs.Marks.{at_character, at_name, mark_of, fault_mark};
 ghost use Rattle.host_sources.specs.Marks as spec;
 ghost use Rattle.host_sources.specs.Steps.{IsMetAt};
@@ -12,10 +12,11 @@ ghost use Rattle.host_sources.specs.declared.faults.SourceFault.TheVariants.{Mem
 use crate::SourceFault;
 use crate::locating::Passed;
 use crate::radixes::is_decimal;
+use crate::runs::{Wanted, first_illegal, first_run};
+use crate::starts::statement_place;
 use pal_asm::Code;
 use pal_asm::laws::{no_fault_before, statements_stay};
 use source_places::{About, first_bytes};
-use statement_runs::{Wanted, first_illegal, first_run, statement_place};
 use std::alloc::{AllocError, Global};
 
 /// Where a fault is in a text, and what stands there.

@@ -11,8 +11,9 @@ ghost use Rattle.host_sources.specs.declared.faults.SourceFault.TheVariants.{Mem
 
 use crate::SourceFault;
 use crate::locating::is_refused;
+use crate::runs::{Wanted, first_run, is_end};
+use crate::starts::{comment_after, is_dead, statement_place};
 use source_places::first_bytes;
-use statement_runs::{Wanted, comment_after, first_run, is_dead, is_end, statement_place};
 use std::alloc::{AllocError, Global};
 
 /// A text whose first statement with a fault, which a byte of it ends, is read as its first tag, if that has no fault itself, and the word 0.

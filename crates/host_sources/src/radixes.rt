@@ -5,7 +5,7 @@ ghost use Rattle.pal_lex.specs.Runs.{base};
 ghost use Rattle.pal_lex.specs.Statements.{radix_after, statements};
 ghost use Rattle.pal_lex.specs.Reading.{HasRead};
 ghost use Rattle.pal_asm.specs.Faults.{first_order};
-ghost use Rattle.statement_runs.specs.Runs.{base_of};
+ghost use Rattle.host_sources.specs.RunSteps.{base_of};
 ghost use Rattle.host_sources.specs.RadixSteps.{decimal_by, is_decimal};
 ghost use Rattle.host_sources.specs.declared.faults.SourceFault.TheVariants.{Memory};
 

@@ -4,7 +4,7 @@
 
 mod rows;
 
-use hosts::{Durability, Host, HostFault, hold_file, lay, make, save_file};
+use hosts::{Durability, Host, HostFault, Recorded, hold_file, lay, make, save_file};
 use rows::{TIME, print_rows};
 use std::alloc::Global;
 use std::env::Env;
@@ -18,7 +18,7 @@ use system::System;
 const MOST: usize = 1_000_000;
 
 fn main(rt: HostRuntime) -> ExitCode {
-    let mut host = System::new(&rt);
+    let mut host = Recorded::new(System::new(&rt));
     match (
         word(&mut host, rt.alloc(), 1),
         word(&mut host, rt.alloc(), 2),

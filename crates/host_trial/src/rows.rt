@@ -1,7 +1,7 @@
 //! Rows of what is left where a call of a host in memory fails.
 
-use fake_host::{Fake, InMemory};
-use hosts::{Durability, HostFault, Unwritten, lay, make, save_file};
+use fake_host::InMemory;
+use hosts::{Durability, HostFault, Recorded, Unwritten, lay, make, save_file};
 use std::alloc::Global;
 
 const OLD: &[u8] = b"OLD OLD";
@@ -59,11 +59,12 @@ pub fn print_rows<R: Print + AllocGlobal>(rt: &R) -> Option<()> {
 
 fn print_row<R: Print + AllocGlobal>(rt: &R, trial: Trial, number: u64) -> Option<()> {
     let alloc = rt.alloc();
-    let mut host = Fake::new(memory_of(alloc, trial, number)?);
+    let mut host = Recorded::new(memory_of(alloc, trial, number)?);
     let ended = try_row(&mut host, alloc, trial);
-    let file = state_of(&host.memory.file);
-    let beside = host.memory.beside.is_some();
-    let time = host.memory.time;
+    let memory = host.raw();
+    let file = state_of(&memory.file);
+    let beside = memory.beside.is_some();
+    let time = memory.time;
     println!(rt;
         "{} {number}: {ended}, file {file}, beside {beside}, time {time}",
         name_of(trial)
@@ -90,7 +91,7 @@ fn memory_of(alloc: Global, trial: Trial, number: u64) -> Option<InMemory> {
 }
 
 /// How a trial ends.
-fn try_row(host: &mut Fake, alloc: Global, trial: Trial) -> &'static str {
+fn try_row(host: &mut Recorded<InMemory>, alloc: Global, trial: Trial) -> &'static str {
     match trial {
         Trial::Save | Trial::SaveOver | Trial::SaveMount => {
             match save_file(host, alloc, "DISK", 3, NEW, "") {

@@ -73,7 +73,7 @@ sound DropBeside false number bytes p s = s
 sound DateBeside ok number bytes p s = s
 sound Rename true number bytes p s = record { file = s.beside; beside = inr refl }
 sound Rename false number bytes p s = s
-sound LinkNew true number bytes p s = record { file = s.beside; beside = inr refl }
+sound LinkNew true number bytes p s = record { file = s.beside; beside = s.beside }
 sound LinkNew false number bytes p s = s
 sound Claim true number bytes p s = record { file = inr refl; beside = s.beside }
 sound Claim false number bytes p s = s

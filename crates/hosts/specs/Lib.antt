@@ -4,6 +4,7 @@ pub mod Holding
 pub mod Laws
 pub mod Place
 pub mod Raw
+pub mod RawSteps
 pub mod Saving
 pub mod SavingSteps
 pub mod Streams

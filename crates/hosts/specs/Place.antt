@@ -83,7 +83,7 @@ with_path p = record { seen = p.beside; on_disk = p.beside_on_disk; beside = Jus
 
 -- A place after a change. One that fails may have gone half its way, so nothing is known of what was being written; but a name is given or
 -- not given. What was written is on the disk only after a sync, and what a failed sync leaves is not known, nor ever again. A file that was
--- renamed, or linked to its path, gets no more bytes by the name beside that.
+-- linked to its path has the name beside that too, until this is taken away, and gets no more bytes by it.
 abbrev pub after : Change → Bool → ℕ → List ℕ → Place → Place
 after MakeBeside ok number bytes p = with_beside (if ok then Just (Some []) else p.beside) (if ok then Anything else p.beside_on_disk) p
 after OwnBeside ok number bytes p = p
@@ -93,7 +93,7 @@ after DropBeside ok number bytes p = with_beside (if ok then Just None else p.be
 after DateBeside ok number bytes p = p
 after Rename true number bytes p = with_path p
 after Rename false number bytes p = p
-after LinkNew true number bytes p = with_path p
+after LinkNew true number bytes p = with_file p.beside p.beside_on_disk (p.on_disk ∷ p.earlier) p
 after LinkNew false number bytes p = p
 after Claim true number bytes p = with_file (Just (Some [])) (Just (Some [])) (p.on_disk ∷ p.earlier) p
 after Claim false number bytes p = p

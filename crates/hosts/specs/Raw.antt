@@ -1,13 +1,10 @@
 -- How a record keeps the calls of a host: by numbers, since only such data has a code.
-use Rattle.std.specs.Prelude.{ℕ, zero, suc, Bool, List, [], ◌∷◌, slice_index, ◌==◌}
+use Rattle.std.specs.Prelude.{ℕ, zero, suc, Bool, List, [], ◌∷◌}
 use Rattle.hosts.specs.Event.{Event, Call, Alter, MakeBeside, OwnBeside, WriteBeside, SyncBeside, DropBeside, DateBeside, Rename, LinkNew, Claim, DropClaim, SyncFolder, WriteOver, FinishOver, Resolve, Hold, DropSeconds, Look, TakeInput, Alone, Leads, LockBeside, Free, There, MakeFolder, Print, Tell, Terminal, Seconds, Pause, Word, EndOfWords, TimeOf, Same, DropLeftovers}
 
 -- which call, whether it succeeded, a number, the name that it is about, and bytes
 abbrev pub Raw : Type 0
 Raw = ℕ × Bool × ℕ × List ℕ × List ℕ
-
-abbrev pub raw_of : List ℕ → List ℕ → List ℕ → Raw
-raw_of numbers name bytes = (slice_index numbers 0, slice_index numbers 1 == 1, slice_index numbers 2, name, bytes)
 
 -- the calls by their numbers
 abbrev pub calls : List Call

@@ -1,6 +1,6 @@
 -- What becomes of a path that is to have other bytes. `old` and `new` are the changes of the path before and after.
 use Rattle.std.specs.Prelude.{◌≡◌, ℕ, ◌+◌, Bool, true, false, not, List, [], ◌∷◌, None, Some, Result, Ok, Err, ◌⊎◌}
-use Rattle.hosts.specs.Event.{Change, Claim, DropClaim, Rename, WriteOver}
+use Rattle.hosts.specs.Event.{Change, MakeBeside, DropBeside, Claim, DropClaim, Rename, WriteOver}
 use Rattle.hosts.specs.Place.{Place, Step, Remainder, Just, replay, ever}
 use Rattle.hosts.specs.declared.faults.HostFault.{HostFault}
 use Rattle.hosts.specs.declared.faults.Durability.{Durability}
@@ -34,6 +34,25 @@ pub record IsOver (bytes : List ℕ) (before p : Place) : Type 0 where
   pub seen : p.seen ≡ Just (Some bytes)
   pub on_disk : p.on_disk ≡ Just (Some bytes)
   pub earlier : p.earlier ≡ before.earlier
+
+abbrev pub with_left : Change → Bool → Bool → Bool
+with_left MakeBeside true before = false
+with_left MakeBeside false before = before
+with_left DropBeside ok before = not ok
+with_left _ ok before = before
+
+-- the file that was made last beside the path could not be taken away
+abbrev pub stays_beside : List Step → Bool
+stays_beside [] = false
+stays_beside (s ∷ earlier) = with_left s.change s.ok (stays_beside earlier)
+
+-- no file is beside the path, but for one that could not be taken away; or what is beside it is as it was
+abbrev pub IsClear : List Step → List Step → Place → Place → Type 0
+IsClear old new before p = (p.beside ≡ Just None) ⊎ ((stays_beside new ≡ true) ⊎ ((p.beside ≡ before.beside) × (stays_beside new ≡ stays_beside old)))
+
+-- no file is left beside the path, unless it could not be taken away
+abbrev pub ClearsBeside : List Step → List Step → Type 0
+ClearsBeside old new = (start : Place) → IsClear old new (replay start old) (replay start new)
 
 -- a file has taken the path whole
 abbrev pub IsKept : Durability → List ℕ → List Step → List Step → Type 0
@@ -136,14 +155,14 @@ abbrev pub has_claim : List Step → Bool
 has_claim [] = false
 has_claim (s ∷ earlier) = with_claim s.change s.ok (has_claim earlier)
 
-abbrev pub unless : Bool → ℕ → ℕ
-unless true before = before
-unless false before = before + 1
+abbrev pub count_unless : Bool → ℕ → ℕ
+count_unless true before = before
+count_unless false before = before + 1
 
 abbrev pub with_replacement : Change → Bool → Bool → ℕ → ℕ
-with_replacement Rename true is before = unless is before
+with_replacement Rename true is before = count_unless is before
 with_replacement Rename false is before = before
-with_replacement DropClaim ok is before = unless is before
+with_replacement DropClaim ok is before = count_unless is before
 with_replacement WriteOver ok is before = before + 1
 with_replacement _ ok is before = before
 

@@ -4,7 +4,7 @@ use Rattle.std.specs.Str.{bytes_eq}
 use Rattle.hosts.specs.Event.{Event, make_call, own_call, lock_call, write_call, sync_call, date_call}
 use Rattle.hosts.specs.Place.{Place, Step, about, replay, ever}
 use Rattle.hosts.specs.Streams.{output, errors, read, failures, may_replace, path_of_name, asked_name, has_links}
-use Rattle.hosts.specs.Saving.{IsAsItWas, IsUnmade, replacements}
+use Rattle.hosts.specs.Saving.{IsAsItWas, IsUnmade, ClearsBeside, replacements}
 use Rattle.hosts.specs.declared.faults.HostFault.{HostFault}
 
 -- the file beside a path has that now
@@ -21,6 +21,7 @@ pub record IsQuiet (path : List ℕ) (old new : List Event) : Type 0 where
   pub place : (start : Place) → IsAsItWas (replay start (about path old)) (replay start (about path new))
   pub moments : (start : Place) → ever start (about path new) ≡ ever start (about path old)
   pub replaced : replacements (about path new) ≡ replacements (about path old)
+  pub beside : ClearsBeside (about path old) (about path new)
   pub cause : failures old < failures new
   pub others : (other : List ℕ) → bytes_eq path other ≡ false → about other new ≡ about other old
   pub printed : output new ≡ output old

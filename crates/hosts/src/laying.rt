@@ -3,7 +3,7 @@ ghost use Rattle.std.specs.Str.{bytes_eq};
 ghost use Rattle.hosts.specs.Event.{there_call};
 ghost use Rattle.hosts.specs.Faults.{fault_number};
 ghost use Rattle.hosts.specs.Place.{about};
-ghost use Rattle.hosts.specs.Saving.{Lays, StaysAsItWas, replacements};
+ghost use Rattle.hosts.specs.Saving.{Lays, ClearsBeside, StaysAsItWas, replacements};
 ghost use Rattle.hosts.specs.SavingSteps.{AreDatedCalls, IsQuiet, laid_calls};
 ghost use Rattle.hosts.specs.Streams.{output, errors, read, failures, last_fault};
 ghost use Rattle.hosts.specs.Times.{file_time};
@@ -30,6 +30,7 @@ pub fn lay<H: Host>(
     ensures once { replacements (about name.now (H.history host.new)) ≤ replacements (about name.now (H.history host.old)) + 1 }
     ensures refused { replaces ≡ true → OnErr result (StaysAsItWas (about name.now (H.history host.old)) (about name.now (H.history host.new))) }
     ensures lays { Lays result bytes.now (about name.now (H.history host.old)) (about name.now (H.history host.new)) }
+    ensures beside { ClearsBeside (about name.now (H.history host.old)) (about name.now (H.history host.new)) }
     ensures time { OnOk result (file_time (about name.now (H.history host.new)) ≡ seconds) }
     ensures cause { OnErr result ((failures (H.history host.old) < failures (H.history host.new))
         ⊎ (H.history host.new ≡ there_call name.now true ∷ H.history host.old)) }

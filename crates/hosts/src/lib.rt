@@ -8,8 +8,10 @@ mod host;
 pub mod laws;
 mod laying;
 mod making;
-pub mod notes;
+mod notes;
+mod raw;
 mod record;
+mod recorded;
 mod saving;
 
 pub use faults::{
@@ -20,5 +22,6 @@ pub use holding::{Held, hold_file};
 pub use host::Host;
 pub use laying::lay;
 pub use making::{make, make_at};
-pub use record::Record;
+pub use raw::RawHost;
+pub use recorded::Recorded;
 pub use saving::{save, save_file, write_over};

@@ -1,8 +1,8 @@
 ghost use Rattle.std.specs.Prelude.{◌≡◌, ◌<◌, ℕ, List, [], ◌∷◌, false, IfErr, OnErr, OnOk};
 ghost use Rattle.std.specs.Str.{bytes_eq};
 ghost use Rattle.hosts.specs.Faults.{fault_number};
-ghost use Rattle.hosts.specs.Place.{about};
-ghost use Rattle.hosts.specs.Saving.{Makes, AnyMomentOf, replacements};
+ghost use Rattle.hosts.specs.Place.{Step, about};
+ghost use Rattle.hosts.specs.Saving.{Makes, ClearsBeside, AnyMomentOf, replacements};
 ghost use Rattle.hosts.specs.SavingSteps.{Takes, IsQuiet, new_calls};
 ghost use Rattle.hosts.specs.Streams.{output, errors, read, failures, last_fault, path_of_name, asked_name, has_links};
 ghost use Rattle.hosts.specs.Times.{beside_time, file_time};
@@ -24,6 +24,7 @@ pub fn make<H: Host>(
     ensures asked { asked_name (H.history host.new) ≡ name.now }
     ensures replaced { replacements (about (path_of_name (H.history host.new)) (H.history host.new)) ≡ replacements (about (path_of_name (H.history host.new)) (H.history host.old)) }
     ensures makes { Makes result bytes.now (about (path_of_name (H.history host.new)) (H.history host.old)) (about (path_of_name (H.history host.new)) (H.history host.new)) }
+    ensures beside { ClearsBeside (about (path_of_name (H.history host.new)) (H.history host.old)) (about (path_of_name (H.history host.new)) (H.history host.new)) }
     ensures any_moment { AnyMomentOf (has_links (H.history host.new)) bytes.now (about (path_of_name (H.history host.new)) (H.history host.old)) (about (path_of_name (H.history host.new)) (H.history host.new)) }
     ensures cause { OnErr result (failures (H.history host.old) < failures (H.history host.new)) }
     ensures why { IfErr result (λ fault. fault_number fault ≡ last_fault (H.history host.new)) }
@@ -50,6 +51,7 @@ pub fn make_at<H: Host>(
 ) -> Result<Durability, HostFault>
     ensures replaced { replacements (about path.now (H.history host.new)) ≡ replacements (about path.now (H.history host.old)) }
     ensures makes { Makes result bytes.now (about path.now (H.history host.old)) (about path.now (H.history host.new)) }
+    ensures beside { ClearsBeside (about path.now (H.history host.old)) (about path.now (H.history host.new)) }
     ensures any_moment { AnyMomentOf (has_links (H.history host.new)) bytes.now (about path.now (H.history host.old)) (about path.now (H.history host.new)) }
     ensures cause { OnErr result (failures (H.history host.old) < failures (H.history host.new)) }
     ensures why { IfErr result (λ fault. fault_number fault ≡ last_fault (H.history host.new)) }
@@ -95,6 +97,7 @@ pub fn make_at<H: Host>(
 pub(crate) fn take_path<H: Host>(host: &mut H, path: &str) -> Result<(), HostFault>
     ensures replaced { replacements (about path.now (H.history host.new)) ≡ replacements (about path.now (H.history host.old)) }
     ensures takes { Takes result (about path.now (H.history host.old)) (about path.now (H.history host.new)) }
+    ensures beside { (before : List Step) → ClearsBeside before (about path.now (H.history host.new)) }
     ensures time { OnOk result (file_time (about path.now (H.history host.new)) ≡ beside_time (about path.now (H.history host.old))) }
     ensures cause { OnErr result (failures (H.history host.old) < failures (H.history host.new)) }
     ensures why { IfErr result (λ fault. fault_number fault ≡ last_fault (H.history host.new)) }

@@ -4,76 +4,76 @@ ghost use Rattle.hosts.specs.Faults.{fault_number, rename_number, link_number};
 
 use crate::{HostFault, LinkFault, RenameFault};
 
-pub const RESOLVE: u64 = 0;
+pub(crate) const RESOLVE: u64 = 0;
 
-pub const HOLD: u64 = 1;
+pub(crate) const HOLD: u64 = 1;
 
-pub const DROP_SECONDS: u64 = 2;
+pub(crate) const DROP_SECONDS: u64 = 2;
 
-pub const LOOK: u64 = 3;
+pub(crate) const LOOK: u64 = 3;
 
-pub const TAKE_INPUT: u64 = 4;
+pub(crate) const TAKE_INPUT: u64 = 4;
 
-pub const ALONE: u64 = 5;
+pub(crate) const ALONE: u64 = 5;
 
-pub const LEADS: u64 = 6;
+pub(crate) const LEADS: u64 = 6;
 
-pub const LOCK_BESIDE: u64 = 7;
+pub(crate) const LOCK_BESIDE: u64 = 7;
 
-pub const FREE: u64 = 8;
+pub(crate) const FREE: u64 = 8;
 
-pub const THERE: u64 = 9;
+pub(crate) const THERE: u64 = 9;
 
-pub const MAKE_FOLDER: u64 = 10;
+pub(crate) const MAKE_FOLDER: u64 = 10;
 
-pub const PRINT: u64 = 11;
+pub(crate) const PRINT: u64 = 11;
 
-pub const TELL: u64 = 12;
+pub(crate) const TELL: u64 = 12;
 
-pub const TERMINAL: u64 = 13;
+pub(crate) const TERMINAL: u64 = 13;
 
-pub const SECONDS: u64 = 14;
+pub(crate) const SECONDS: u64 = 14;
 
-pub const PAUSE: u64 = 15;
+pub(crate) const PAUSE: u64 = 15;
 
-pub const WORD: u64 = 16;
+pub(crate) const WORD: u64 = 16;
 
-pub const END_OF_WORDS: u64 = 17;
+pub(crate) const END_OF_WORDS: u64 = 17;
 
-pub const MAKE_BESIDE: u64 = 18;
+pub(crate) const MAKE_BESIDE: u64 = 18;
 
-pub const OWN_BESIDE: u64 = 19;
+pub(crate) const OWN_BESIDE: u64 = 19;
 
-pub const WRITE_BESIDE: u64 = 20;
+pub(crate) const WRITE_BESIDE: u64 = 20;
 
-pub const SYNC_BESIDE: u64 = 21;
+pub(crate) const SYNC_BESIDE: u64 = 21;
 
-pub const DROP_BESIDE: u64 = 22;
+pub(crate) const DROP_BESIDE: u64 = 22;
 
-pub const RENAME: u64 = 23;
+pub(crate) const RENAME: u64 = 23;
 
-pub const LINK_NEW: u64 = 24;
+pub(crate) const LINK_NEW: u64 = 24;
 
-pub const CLAIM: u64 = 25;
+pub(crate) const CLAIM: u64 = 25;
 
-pub const DROP_CLAIM: u64 = 26;
+pub(crate) const DROP_CLAIM: u64 = 26;
 
-pub const SYNC_FOLDER: u64 = 27;
+pub(crate) const SYNC_FOLDER: u64 = 27;
 
-pub const WRITE_OVER: u64 = 28;
+pub(crate) const WRITE_OVER: u64 = 28;
 
-pub const FINISH_OVER: u64 = 29;
+pub(crate) const FINISH_OVER: u64 = 29;
 
-pub const TIME_OF: u64 = 30;
+pub(crate) const TIME_OF: u64 = 30;
 
-pub const DATE_BESIDE: u64 = 31;
+pub(crate) const DATE_BESIDE: u64 = 31;
 
-pub const SAME: u64 = 32;
+pub(crate) const SAME: u64 = 32;
 
-pub const DROP_LEFTOVERS: u64 = 33;
+pub(crate) const DROP_LEFTOVERS: u64 = 33;
 
 /// 1 where a call succeeded, and else 0.
-pub fn number<T, E>(done: &Result<T, E>) -> u64
+pub(crate) fn number<T, E>(done: &Result<T, E>) -> u64
     ensures { result ≡ (if is_ok done.now then 1 else 0) }
 {
     match done {
@@ -83,7 +83,7 @@ pub fn number<T, E>(done: &Result<T, E>) -> u64
 }
 
 /// Why a call failed.
-pub fn fault_number(fault: &HostFault) -> u64
+pub(crate) fn fault_number(fault: &HostFault) -> u64
     ensures { result ≡ fault_number fault.now }
 {
     match fault {
@@ -105,7 +105,7 @@ pub fn fault_number(fault: &HostFault) -> u64
 }
 
 /// Why a file can't take a path.
-pub fn rename_number(fault: &RenameFault) -> u64
+pub(crate) fn rename_number(fault: &RenameFault) -> u64
     ensures { result ≡ rename_number fault.now }
 {
     match fault {
@@ -136,7 +136,7 @@ fn number_after(fault: HostFault) -> u64
 }
 
 /// Why a file can't have a path as a further name.
-pub fn link_number(fault: &LinkFault) -> u64
+pub(crate) fn link_number(fault: &LinkFault) -> u64
     ensures { result ≡ link_number fault.now }
 {
     match fault {

@@ -2,8 +2,8 @@ ghost use Rattle.std.specs.Prelude.{◌≡◌, ◌<◌, ◌≤◌, ℕ, List, []
 ghost use Rattle.std.specs.Str.{bytes_eq};
 ghost use Rattle.hosts.specs.Event.{drop_call};
 ghost use Rattle.hosts.specs.Faults.{IsWhy, fault_number};
-ghost use Rattle.hosts.specs.Place.{about};
-ghost use Rattle.hosts.specs.Saving.{Saves, SavesFile, AnyMoment, AnyMomentOf, IsPlaceNoted, IsNotedBefore, IsWrittenOver, still_may, last_bytes, last_over};
+ghost use Rattle.hosts.specs.Place.{Step, about};
+ghost use Rattle.hosts.specs.Saving.{Saves, SavesFile, ClearsBeside, AnyMoment, AnyMomentOf, IsPlaceNoted, IsNotedBefore, IsWrittenOver, still_may, last_bytes, last_over};
 ghost use Rattle.hosts.specs.SavingSteps.{IsQuiet, ready_calls};
 ghost use Rattle.hosts.specs.Streams.{before_told, output, errors, read, failures, last_fault, may_replace};
 ghost use Rattle.hosts.specs.declared.faults.Unwritten.TheVariants.{AsItWas};
@@ -21,6 +21,7 @@ pub fn save<H: Host>(
     bytes: &[u8],
 ) -> Result<Durability, RenameFault>
     ensures saves { Saves result bytes.now (about path.now (H.history host.old)) (about path.now (H.history host.new)) }
+    ensures beside { ClearsBeside (about path.now (H.history host.old)) (about path.now (H.history host.new)) }
     ensures any_moment { AnyMoment bytes.now (about path.now (H.history host.old)) (about path.now (H.history host.new)) }
     ensures cause { OnErr result (failures (H.history host.old) < failures (H.history host.new)) }
     ensures others { (other : List ℕ) → bytes_eq path.now other ≡ false
@@ -85,7 +86,8 @@ fn prepare<H: Host>(host: &mut H, alloc: Global, path: &str, bytes: &[u8]) -> Re
 
 /// Takes away the file beside a path.
 pub(crate) fn give_up<H: Host>(host: &mut H, path: &str)
-    ensures { (ok : _) × (number : _) × (H.history host.new ≡ drop_call path.now ok number ∷ H.history host.old) }
+    ensures beside { (before : List Step) → ClearsBeside before (about path.now (H.history host.new)) }
+    ensures call { (ok : _) × (number : _) × (H.history host.new ≡ drop_call path.now ok number ∷ H.history host.old) }
 {
     match host.drop_beside(path) {
         Ok(()) => {}
@@ -104,6 +106,7 @@ pub fn write_over<H: Host>(
     ensures told { before_told (H.history host.new) ≡ before_told (H.history host.old) }
     ensures head { OnOk result (last_bytes (about path.now (H.history host.new)) ≡ take first bytes.now) }
     ensures over { OnOk result (IsWrittenOver bytes.now (about path.now (H.history host.old)) (about path.now (H.history host.new))) }
+    ensures beside { ClearsBeside (about path.now (H.history host.old)) (about path.now (H.history host.new)) }
     ensures cause { OnErr result (failures (H.history host.old) < failures (H.history host.new)) }
     ensures others { (other : List ℕ) → bytes_eq path.now other ≡ false
         → about other (H.history host.new) ≡ about other (H.history host.old) }
@@ -137,6 +140,7 @@ pub fn save_file<H: Host>(
 ) -> Result<Durability, SaveFault>
     ensures head { OnOk result (may_replace (H.history host.new) ≡ false → last_bytes (about path.now (H.history host.new)) ≡ take first bytes.now) }
     ensures saves { SavesFile result (may_replace (H.history host.new)) bytes.now (about path.now (H.history host.old)) (about path.now (H.history host.new)) }
+    ensures beside { ClearsBeside (about path.now (H.history host.old)) (about path.now (H.history host.new)) }
     ensures any_moment { AnyMomentOf (may_replace (H.history host.new)) bytes.now (about path.now (H.history host.old)) (about path.now (H.history host.new)) }
     ensures cause { OnErr result (failures (H.history host.old) < failures (H.history host.new)) }
     ensures others { (other : List ℕ) → bytes_eq path.now other ≡ false
@@ -181,6 +185,7 @@ fn save_over<H: Host>(
 ) -> Result<Durability, SaveFault>
     ensures head { OnOk result (last_bytes (about path.now (H.history host.new)) ≡ take first bytes.now) }
     ensures saves { SavesFile result false bytes.now (about path.now (H.history host.old)) (about path.now (H.history host.new)) }
+    ensures beside { ClearsBeside (about path.now (H.history host.old)) (about path.now (H.history host.new)) }
     ensures cause { OnErr result (failures (H.history host.old) < failures (H.history host.new)) }
     ensures others { (other : List ℕ) → bytes_eq path.now other ≡ false
         → about other (H.history host.new) ≡ about other (H.history host.old) }

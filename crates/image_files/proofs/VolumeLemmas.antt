@@ -18,7 +18,7 @@ use Rattle.image_kind.specs.declared.volumes.Volumes.TheVariants.{One, Both}
 use Rattle.outcome.specs.declared.endings.Ending.{Ending}
 use Rattle.outcome.specs.declared.endings.Ending.TheVariants.{Line, Fault}
 use Rattle.program_reports.specs.declared.programs.ProgramLine.TheVariants as line
-use Rattle.script8.specs.declared.faults.SessionFault.TheVariants as session
+use Rattle.refusals.specs.declared.faults.SessionFault.TheVariants as session
 use Rattle.image_files.specs.Again.{EndsForMemory}
 use Rattle.image_files.specs.Reading.{IsNoVolume, IsParted, IsVolumeOf}
 use Rattle.image_files.specs.Saving.{IsBodyWith, IsFileAround}

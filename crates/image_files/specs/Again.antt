@@ -8,7 +8,7 @@ use Rattle.outcome.specs.declared.endings.Ending.{Ending}
 use Rattle.outcome.specs.declared.endings.Ending.TheVariants.{Line, Fault}
 use Rattle.program_reports.specs.declared.programs.ProgramLine.TheVariants as line
 use Rattle.program_tasks.specs.declared.forms.ImageForm.{ImageForm}
-use Rattle.script8.specs.declared.faults.SessionFault.TheVariants.{Memory}
+use Rattle.refusals.specs.declared.faults.SessionFault.TheVariants.{Memory}
 use Rattle.image_files.specs.Judging.{Judges}
 use Rattle.image_files.specs.Reading.{FindsOne, JudgesOpened, Looks}
 use Rattle.image_files.specs.Work.{Then}

@@ -4,7 +4,7 @@ use Rattle.std.specs.Global.{Vec}
 use Rattle.shown_text.specs.Showing.{shown_text}
 use Rattle.hosts.specs.Event.{Event}
 use Rattle.archive_files.specs.declared.faults.ArchiveFault.{ArchiveFault}
-use Rattle.script8.specs.declared.faults.SessionFault.TheVariants.{Memory}
+use Rattle.refusals.specs.declared.faults.SessionFault.TheVariants.{Memory}
 use Rattle.outcome.specs.Endings.{ending_of_archive}
 use Rattle.outcome.specs.Hints.{image_note}
 use Rattle.outcome.specs.declared.endings.Ending.{Ending}

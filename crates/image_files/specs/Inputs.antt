@@ -7,8 +7,8 @@ use Rattle.hosts.specs.Faults.{class_of}
 use Rattle.hosts.specs.declared.faults.FaultClass.{FaultClass}
 use Rattle.hosts.specs.declared.faults.FaultClass.TheVariants as class
 use Rattle.hosts.specs.declared.faults.HostFault.{HostFault}
-use Rattle.script8.specs.declared.readings.TheConstants.{MOST}
-use Rattle.script8.specs.declared.faults.SessionFault.TheVariants.{Reader, Memory}
+use Rattle.refusals.specs.declared.faults.TheConstants.{MOST}
+use Rattle.refusals.specs.declared.faults.SessionFault.TheVariants.{Reader, Memory}
 use Rattle.outcome.specs.Notes.{name_text}
 use Rattle.outcome.specs.declared.notes.NameNote.TheVariants.{TooLong}
 use Rattle.outcome.specs.declared.endings.Ending.{Ending}

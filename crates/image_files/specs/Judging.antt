@@ -14,7 +14,7 @@ use Rattle.outcome.specs.declared.endings.Ending.TheVariants.{Line, Fault}
 use Rattle.outcome.specs.declared.notes.PlainNote.{PlainNote}
 use Rattle.outcome.specs.declared.notes.PlainNote.TheVariants.{MadeVolume, MadeDisk, MadeDectape}
 use Rattle.program_reports.specs.declared.programs.ProgramLine.TheVariants as line
-use Rattle.script8.specs.declared.faults.SessionFault.TheVariants.{Memory}
+use Rattle.refusals.specs.declared.faults.SessionFault.TheVariants.{Memory}
 
 -- a note says in which two ways, unless memory is wanted for it
 abbrev pub TellsTwo : List ℕ → ImageKind × ImageKind → List Event → Ending → List Event → Type 0

@@ -6,7 +6,7 @@ use Rattle.disk_layouts.specs.declared.layouts.Layout.{Layout}
 use Rattle.image_kind.specs.Lines.{mended_lines}
 use Rattle.image_kind.specs.Mending.{IsMended}
 use Rattle.image_kind.specs.declared.mending.MendedFile.{MendedFile}
-use Rattle.script8.specs.declared.faults.SessionFault.TheVariants.{Memory}
+use Rattle.refusals.specs.declared.faults.SessionFault.TheVariants.{Memory}
 use Rattle.outcome.specs.declared.endings.Ending.{Ending}
 use Rattle.outcome.specs.declared.endings.Ending.TheVariants.{Fault}
 

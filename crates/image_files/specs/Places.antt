@@ -2,7 +2,7 @@
 use Rattle.std.specs.Prelude.{◌≡◌, ◌⊎◌, ℕ, Bool, true, false, Result, Ok, Err, List, [], ◌∷◌, ◌++◌, codes}
 use Rattle.hosts.specs.Event.{Event, failed_same, same_call, tell_call}
 use Rattle.hosts.specs.declared.faults.HostFault.{HostFault}
-use Rattle.script8.specs.declared.faults.SessionFault.TheVariants.{Memory}
+use Rattle.refusals.specs.declared.faults.SessionFault.TheVariants.{Memory}
 use Rattle.program_reports.specs.declared.programs.ProgramLine.TheVariants.{OneFile}
 use Rattle.outcome.specs.Notes.{name_text}
 use Rattle.outcome.specs.declared.contents.Content.{Content}

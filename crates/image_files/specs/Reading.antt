@@ -21,8 +21,8 @@ use Rattle.image_kind.specs.declared.volumes.Volumes.TheVariants.{One, Both}
 use Rattle.disk_layouts.specs.Disks.{FitsLayout, IsImageIn}
 use Rattle.disk_layouts.specs.Files.{Disk, Opens as OpensDisk}
 use Rattle.disk_layouts.specs.declared.layouts.Layout.{Layout}
-use Rattle.script8.specs.declared.readings.TheConstants.{MOST}
-use Rattle.script8.specs.declared.faults.SessionFault.TheVariants.{Memory}
+use Rattle.refusals.specs.declared.faults.TheConstants.{MOST}
+use Rattle.refusals.specs.declared.faults.SessionFault.TheVariants.{Memory}
 use Rattle.program_reports.specs.declared.programs.ProgramLine.TheVariants.{HostRead}
 use Rattle.program_reports.specs.declared.programs.ProgramLine.TheVariants as line
 use Rattle.outcome.specs.Contents.{content_name}

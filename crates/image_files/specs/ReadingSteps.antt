@@ -3,7 +3,7 @@ use Rattle.std.specs.Prelude.{◌≡◌, ◌≤◌, ◌<◌, ℕ, Result, Ok, Er
 use Rattle.std.specs.Global.{Vec}
 use Rattle.hosts.specs.Event.{Event}
 use Rattle.hosts.specs.declared.faults.HostFault.{HostFault}
-use Rattle.script8.specs.declared.readings.TheConstants.{MOST}
+use Rattle.refusals.specs.declared.faults.TheConstants.{MOST}
 use Rattle.outcome.specs.declared.endings.Ending.{Ending}
 use Rattle.image_files.specs.Reading.{IsTooLong, ending_of_image}
 use Rattle.image_files.specs.Reasons.{TellsFault}

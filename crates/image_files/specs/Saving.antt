@@ -4,7 +4,7 @@ use Rattle.std.specs.Str.{bytes_eq}
 use Rattle.hosts.specs.Event.{Event, print_call}
 use Rattle.hosts.specs.Faults.{fault_number}
 use Rattle.hosts.specs.Place.{about}
-use Rattle.hosts.specs.Saving.{KeepsFile, StaysAsItWas, AnyMomentOf, IsPlaceNoted}
+use Rattle.hosts.specs.Saving.{KeepsFile, ClearsBeside, StaysAsItWas, AnyMomentOf, IsPlaceNoted}
 use Rattle.hosts.specs.Streams.{output, errors, read, failures, last_fault, may_replace}
 use Rattle.hosts.specs.declared.faults.Durability.{Durability}
 use Rattle.hosts.specs.declared.faults.Durability.TheVariants.{Certain, Unknown}
@@ -56,9 +56,11 @@ abbrev pub HasNoRoom : Option Parts → List ℕ → Type 0
 HasNoRoom None body = ⊥
 HasNoRoom (Some parts) body = length body ≢ length parts.body
 
--- no file but the one at a path was changed, nothing was printed on standard output, and nothing was read
+-- No file but the one at a path was changed, nothing was printed on standard output, and nothing was read. No file is left beside the path,
+-- unless it could not be taken away.
 pub record TouchesOnly (path : List ℕ) (old new : List Event) : Type 0 where
   pub others : (other : List ℕ) → bytes_eq path other ≡ false → about other new ≡ about other old
+  pub beside : ClearsBeside (about path old) (about path new)
   pub prints : output new ≡ output old
   pub reads : read new ≡ read old
 

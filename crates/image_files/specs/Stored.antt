@@ -4,11 +4,9 @@ use Rattle.std.specs.Global.{Vec}
 use Rattle.hosts.specs.Event.{Event, tell_call}
 use Rattle.program_reports.specs.Program.{program_line}
 use Rattle.program_reports.specs.declared.programs.ProgramLine.TheVariants as line
-use Rattle.script8.specs.declared.faults.SessionFault.{SessionFault}
-use Rattle.script8.specs.declared.faults.SessionFault.TheVariants.{BadLine, NoJob, TooManyJobs, File, Asm, Tape, BadText, Reader, Writer, Memory, TooManyBreaks}
+use Rattle.refusals.specs.declared.faults.SessionFault.{SessionFault}
+use Rattle.refusals.specs.declared.faults.SessionFault.TheVariants.{BadLine, NoJob, TooManyJobs, File, Asm, Tape, BadText, Reader, Writer, Memory, TooManyBreaks}
 use Rattle.archive_files.specs.HostTexts.{FindsBad}
-use Rattle.archive_files.specs.declared.faults.ArchiveFault.{ArchiveFault}
-use Rattle.archive_files.specs.declared.faults.ArchiveFault.TheVariants as archive
 use Rattle.archive_files.specs.declared.places.TextPlace.{TextPlace}
 use Rattle.archive_files.specs.declared.putting.NewImage.{NewImage}
 use Rattle.outcome.specs.Notes.{bad_text}
@@ -40,11 +38,6 @@ is_bad Reader = false
 is_bad Writer = false
 is_bad Memory = false
 is_bad TooManyBreaks = false
-
-abbrev pub is_bad_text : ArchiveFault → Bool
-is_bad_text (archive.Image fault) = false
-is_bad_text (archive.Directory fault) = false
-is_bad_text (archive.Refused fault) = is_bad fault
 
 -- the line of a file that was put
 abbrev pub stored_line : NewImage → List ℕ

@@ -8,7 +8,7 @@ use Rattle.os8_dates.specs.declared.dates.Date.{Date}
 use Rattle.os8_dates.specs.declared.years.TheConstants.{LAST_YEAR, LEAST_LAST}
 use Rattle.archive_many.specs.Opened.{OpensVolume}
 use Rattle.archive_many.specs.declared.putting.NewFile.{NewFile}
-use Rattle.script8.specs.declared.faults.SessionFault.TheVariants.{Memory}
+use Rattle.refusals.specs.declared.faults.SessionFault.TheVariants.{Memory}
 use Rattle.outcome.specs.Notes.{name_text}
 use Rattle.outcome.specs.declared.notes.NameNote.TheVariants.{Hint}
 use Rattle.outcome.specs.declared.endings.Ending.{Ending}

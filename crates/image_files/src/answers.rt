@@ -41,14 +41,11 @@ pub fn program_line(alloc: Global, line: &ProgramLine) -> Result<Vec<u8>, Ending
     Ok(text)
 }
 
-/// Appends the line of a file of so many blocks that was put. The one fault is want of memory.
+/// Appends the line of a file of so many blocks that was put.
 pub fn put_stored(name: Name, blocks: usize, lines: &mut Vec<u8>) -> Result<(), AllocError>
     ensures { OnOk result (lines.new.items ≡ lines.old.items ++ report.program_line (Stored name blocks)) }
 {
-    match put_program(&ProgramLine::Stored(name, blocks), lines) {
-        Ok(()) => Ok(()),
-        Err(_) => Err(AllocError),
-    }
+    put_program(&ProgramLine::Stored(name, blocks), lines)
 }
 
 /// Lines with a name before each, which is shown with escapes where it isn't graphic.

@@ -7,7 +7,7 @@ ghost use Rattle.image_files.specs.Reading.{ending_of_image};
 use hosts::{FaultClass, HostFault, PrintFault, Unwritten};
 use outcome::{Content, Ending};
 use program_reports::ProgramLine;
-use script8::SessionFault;
+use refusals::SessionFault;
 
 /// How a command ends if its image can't be held, or can't be read (this project's profile).
 pub fn ending_of_image(fault: HostFault) -> Ending

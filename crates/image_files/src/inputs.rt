@@ -5,8 +5,7 @@ use crate::notes::tell_note;
 use crate::reading::look_file;
 use hosts::{FaultClass, Host};
 use outcome::{Ending, NameNote, Note};
-use script8::SessionFault;
-use script8::readings::MOST;
+use refusals::{MOST, SessionFault};
 use std::alloc::Global;
 
 /// The name of standard input where a file's may stand.

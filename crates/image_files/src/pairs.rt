@@ -9,7 +9,7 @@ use disk_layouts::Layout;
 use hosts::Host;
 use outcome::{Ending, NameNote, Note};
 use program_tasks::ImageForm;
-use script8::SessionFault;
+use refusals::SessionFault;
 use std::alloc::Global;
 
 /// How the command ends if the image in this file, or a file of it, is refused. Which it is, is printed.

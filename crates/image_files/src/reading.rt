@@ -15,7 +15,7 @@ use image_kind::{Volumes, body_by, body_of, margins_with, script_kind, volumes_i
 use outcome::{Content, Ending, FileNote, NameNote, Note, PlainNote};
 use program_reports::ProgramLine;
 use program_tasks::ImageForm;
-use script8::readings::MOST;
+use refusals::MOST;
 use std::alloc::Global;
 use volume_image::ImageFault;
 

@@ -3,7 +3,7 @@ ghost use Rattle.std.specs.Prelude.{◌≡◌, ◌<◌, ℕ, List, false, IfErr,
 ghost use Rattle.std.specs.Str.{bytes_eq};
 ghost use Rattle.hosts.specs.Faults.{fault_number};
 ghost use Rattle.hosts.specs.Place.{about};
-ghost use Rattle.hosts.specs.Saving.{AnyMomentOf, SavesFile};
+ghost use Rattle.hosts.specs.Saving.{AnyMomentOf, ClearsBeside, SavesFile};
 ghost use Rattle.hosts.specs.Streams.{errors, failures, last_fault, may_replace, output, read};
 ghost use Rattle.image_files.specs.Saving.{IsPlaceTold, Writes};
 
@@ -55,6 +55,7 @@ fn save_noted<H: Host>(
 ) -> Result<Durability, SaveFault>
     ensures saves { SavesFile result (may_replace (H.history host.new)) bytes.now (about path.now (H.history host.old)) (about path.now (H.history host.new)) }
     ensures any_moment { AnyMomentOf (may_replace (H.history host.new)) bytes.now (about path.now (H.history host.old)) (about path.now (H.history host.new)) }
+    ensures beside { ClearsBeside (about path.now (H.history host.old)) (about path.now (H.history host.new)) }
     ensures cause { OnErr result (failures (H.history host.old) < failures (H.history host.new)) }
     ensures why { IfErr result (λ fault. fault_number fault.why ≡ last_fault (H.history host.new)) }
     ensures errors { IsPlaceTold (may_replace (H.history host.new)) content (errors (H.history host.old)) (errors (H.history host.new)) }

@@ -1,12 +1,12 @@
 -- How the lines of an index are printed, and its columns at a terminal (this project's profile).
 use Rattle.std.specs.Prelude.{◌≡◌, ◌⊎◌, ℕ, ◌+◌, ◌-◌, Bool, not, ◌&&◌, if◌then◌else◌, Result, Ok, Err, List, [], ◌∷◌, length}
 use Rattle.hosts.specs.Event.{Event, terminal_call}
-use Rattle.script8.specs.declared.faults.SessionFault.TheVariants.{Memory}
+use Rattle.refusals.specs.declared.faults.SessionFault.TheVariants.{Memory}
 use Rattle.outcome.specs.declared.endings.Ending.{Ending}
 use Rattle.outcome.specs.declared.endings.Ending.TheVariants.{Fault}
 use Rattle.volume_index.specs.Json.{json_lines}
 use Rattle.image_files.specs.Saving.{Prints}
-use Rattle.text_columns.specs.Columns.{with_columns}
+use Rattle.index_commands.specs.TextColumns.{with_columns}
 use Rattle.index_commands.specs.declared.columns.Columns.{Columns}
 use Rattle.index_commands.specs.declared.columns.LineShape.{LineShape}
 

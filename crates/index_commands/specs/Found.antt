@@ -2,10 +2,10 @@
 use Rattle.std.specs.Prelude.{◌≡◌, Bool, true, false, not, ℕ, Result, Ok, Err, List, ◌++◌}
 use Rattle.std.specs.Global.{Vec}
 use Rattle.hosts.specs.Event.{Event}
-use Rattle.script8.specs.declared.faults.SessionFault.TheVariants.{Memory}
+use Rattle.refusals.specs.declared.faults.SessionFault.TheVariants.{Memory}
 use Rattle.outcome.specs.declared.endings.Ending.{Ending}
 use Rattle.outcome.specs.declared.endings.Ending.TheVariants.{Fault}
-use Rattle.index_lines.specs.Same.{IsSame}
+use Rattle.volume_index.specs.Same.{IsSame}
 use Rattle.image_files.specs.Work.{After, Then, Purely}
 use Rattle.index_commands.specs.declared.columns.Columns.{Columns}
 use Rattle.index_commands.specs.declared.found.Found.{Found}

@@ -4,3 +4,5 @@ pub mod Indexing
 pub mod IndexSteps
 pub mod Refusing
 pub mod Volumes
+pub mod TextColumns
+pub mod Laws

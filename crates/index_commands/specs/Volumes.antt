@@ -9,7 +9,7 @@ use Rattle.image_kind.specs.declared.kinds.Form.{Form}
 use Rattle.image_kind.specs.declared.kinds.Form.TheVariants as form
 use Rattle.image_kind.specs.declared.kinds.ImageKind.{ImageKind}
 use Rattle.image_kind.specs.Judging.{judged_kind}
-use Rattle.script8.specs.declared.faults.SessionFault.TheVariants.{Memory}
+use Rattle.refusals.specs.declared.faults.SessionFault.TheVariants.{Memory}
 use Rattle.program_reports.specs.declared.programs.ProgramLine.TheVariants as line
 use Rattle.outcome.specs.declared.endings.Ending.{Ending}
 use Rattle.outcome.specs.declared.endings.Ending.TheVariants.{Line, Fault}

@@ -3,11 +3,11 @@ ghost use Rattle.std.specs.Prelude.{◌≡◌, ◌∷◌, [], IfOk, map};
 ghost use Rattle.index_commands.specs.Columns.{ChoosesColumns, Shows, longest};
 ghost use Rattle.index_commands.specs.Columns as spec;
 
+use crate::aligning::align;
 use hosts::{Host, Stream};
 use image_files::print;
 use outcome::Ending;
 use std::alloc::{AllocError, Global};
-use text_columns::align;
 use volume_index::json_lines;
 
 /// How wide the columns after the image's name are: a volume's number, a block, a length, a name, a date, and what a file holds.

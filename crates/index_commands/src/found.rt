@@ -5,9 +5,9 @@ ghost use Rattle.index_commands.specs.Found.{FindsSame, KeepsLines, ShowsGroups,
 use crate::columns::Columns;
 use hosts::Host;
 use image_files::part_after;
-use index_lines::same_lines;
 use outcome::Ending;
 use std::alloc::Global;
+use volume_index::same_lines;
 
 /// What an index has so far, beside the lines that are printed.
 #[derive(Drop)]

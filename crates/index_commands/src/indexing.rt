@@ -6,7 +6,7 @@ ghost use Rattle.index_commands.specs.Volumes.{body_of, layouts_in, layouts_of};
 
 use crate::columns::{Columns, LineShape};
 use crate::found::{Found, print_same, take_lines};
-use crate::refusals::refuse_volume;
+use crate::passed_over::refuse_volume;
 use crate::volumes::{body_in, number_of, volume_at};
 use archive_many::{ChoiceFault, choose_files};
 use disk_layouts::Layout;

@@ -8,7 +8,7 @@ use disk_layouts::{DiskFault, DiskFile, Layout};
 use image_kind::ImageKind;
 use outcome::Ending;
 use program_reports::ProgramLine;
-use script8::SessionFault;
+use refusals::SessionFault;
 use std::alloc::Global;
 
 /// The bytes of a file of this kind, without what other programs put before and after them.

@@ -19,9 +19,9 @@ use Rattle.os8_dir.specs.declared.file_faults.FileFault.TheVariants.{NotFound, B
 use Rattle.os8_dir.specs.declared.file_faults.FileFault.TheVariants as file
 use Rattle.os8_files.specs.Calls.{info_of}
 use Rattle.name_spelling.specs.Reading.{typed_name}
-use Rattle.script8.specs.declared.faults.SessionFault.{SessionFault}
-use Rattle.script8.specs.declared.faults.SessionFault.TheVariants.{File, Memory}
-use Rattle.script8.specs.declared.faults.SessionFault.TheVariants as session
+use Rattle.refusals.specs.declared.faults.SessionFault.{SessionFault}
+use Rattle.refusals.specs.declared.faults.SessionFault.TheVariants.{File, Memory}
+use Rattle.refusals.specs.declared.faults.SessionFault.TheVariants as session
 use Rattle.archive_files.specs.Asking.{Target, OfName}
 use Rattle.archive_files.specs.ChangeLaws.{CopyIsTheSame, CopyLeavesOthers}
 use Rattle.archive_files.specs.Copying.{CopiesFile, target}

@@ -1,29 +1,22 @@
 -- A file that was stored is got again of the image file as it was left.
-use Rattle.std.proofs.Common.{◌≡◌, ◌∙◌, ℕ, Bool, Result, Ok, Err, List, length, ap, subst, inl, inr}
+use Rattle.std.proofs.Common.{◌≡◌, ◌∙◌, ℕ, Result, Ok, Err, List, length, ap, subst, inl, inr}
 use Rattle.std.specs.Global.{Vec}
 use Rattle.hosts.specs.Event.{Event}
 use Rattle.char_pack.specs.declared.forms.GetForm.{GetForm}
-use Rattle.char_pack.specs.declared.forms.PutForm.{PutForm}
 use Rattle.archive_files.specs.Asking.{OfName}
 use Rattle.archive_files.specs.Getting.{Gets}
 use Rattle.archive_files.specs.Laws.{GivesOrLacks}
-use Rattle.archive_files.specs.Putting.{PutsFile}
 use Rattle.archive_files.specs.declared.faults.ArchiveFault.{ArchiveFault}
-use Rattle.archive_many.specs.Putting.{info_or}
 use Rattle.outcome.specs.Endings.{ending_of_archive}
 use Rattle.outcome.specs.Hints.{image_note}
 use Rattle.outcome.specs.declared.endings.Ending.{Ending}
 use Rattle.program_tasks.specs.declared.forms.ImageForm.{ImageForm}
-use Rattle.program_tasks.specs.declared.forms.PutOneForm.{PutOneForm}
 use Rattle.image_files.specs.Again.{AreAlike, IsFoundAgain}
 use Rattle.image_files.specs.Answers.{Answers}
-use Rattle.image_files.specs.Dates.{word_of_day}
 use Rattle.image_files.specs.Notes.{TellsOfImage}
 use Rattle.image_files.specs.Saving.{Prints}
-use Rattle.image_files.specs.Stored.{words_of}
 use Rattle.image_files.specs.Work.{Then}
 use Rattle.keeper_laws.specs.GettingBack.{IsPrinted, PrintsOrLacks, ShowsIn}
-use Rattle.keeper_laws.specs.Stored.{HasStored}
 
 answers-print : (gives : Result (Vec ℕ) ArchiveFault → Type 0) (size : ℕ) (bytes : List ℕ) → ((answer : Result (Vec ℕ) ArchiveFault) → gives answer → GivesOrLacks bytes answer)
     → (old : List Event) (result : Result (Unit {0}) Ending) (new : List Event) → Then (Answers gives size) (λ it. Prints it.items) old result new → PrintsOrLacks bytes old result new
@@ -50,9 +43,3 @@ pub is-printed : (form : ImageForm) (file image name bytes : List ℕ) (how : Ge
     → ((answer : Result (Vec ℕ) ArchiveFault) → Gets image (OfName name) how answer → GivesOrLacks bytes answer) → IsPrinted form file name how bytes
 is-printed form file image name bytes how found law = λ again old new result same p.
     found-prints (λ it. Gets it (OfName name) how) form again file image bytes found same law old result new p
-
--- the file was put in this form
-pub put-as : (form : PutOneForm) (ok : Bool) (old new : List Event) (stored : HasStored form ok old new) (kind : PutForm) → form.form ≡ kind
-    → PutsFile stored.image.bytes.items form.name.bytes.items kind stored.given (info_or (word_of_day stored.day) (words_of form.info)) (Ok stored.stored)
-put-as form ok old new stored kind is =
-    subst (λ (k : PutForm). PutsFile stored.image.bytes.items form.name.bytes.items k stored.given (info_or (word_of_day stored.day) (words_of form.info)) (Ok stored.stored)) is stored.puts

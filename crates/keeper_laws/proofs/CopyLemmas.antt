@@ -31,7 +31,6 @@ use Rattle.image_files.specs.Saving.{Stores}
 use Rattle.image_files.specs.Work.{Follows, Then, Purely}
 use Rattle.image_files.specs.declared.images.Image.{Image}
 use Rattle.image_files.specs.declared.mending.ImageReading.{ImageReading}
-use Rattle.asked_files.specs.Asking.{MeansFile, wanted_file}
 use Rattle.change_commands.specs.Copying.{Copies, CopiesFrom, CopiesInto, MakesCopy, RefusesCopy, TellsCopy, copied_lines, new_name}
 use Rattle.keeper_laws.specs.Changed.{warnings}
 use Rattle.keeper_laws.specs.Copied.{HasCopied, IsSource}
@@ -133,9 +132,6 @@ tells-refuses : (from : List ℕ) (wanted : Target) (to : List ℕ) (made : NewI
 tells-refuses from wanted to made = then-refuses (Answers (CutsFile from wanted to) (length from)) (λ cut. Purely (AreLines (copied_lines made cut)))
     (answers-refuse (CutsFile from wanted to) (length from)) (answers-silent (CutsFile from wanted to) (length from)) (λ cut. lines-refuse (copied_lines made cut))
 
-means-refuses : (form : CopyForm) → OnlyRefuses (Purely (MeansFile form.file))
-means-refuses form old ending new p = (ends-so ending _ p.0 refl, ap output p.1)
-
 -- ## The steps before the save
 
 -- the lines of a copy
@@ -221,15 +217,8 @@ module _ (form : CopyForm) (old : List Event) (result : Result (Unit {0}) Ending
         go (inr refused) = inr refused
         go (inl it) = source-of (is_one_image form.image form.to) wanted it.given it.between (has-opened form.to old it.given it.between it.done) it.after
 
-    ready : Copies form old result new → MadeIf (is_one_image form.image form.to) (wanted_file form.file)
-    ready p = go (reaches (Purely (MeansFile form.file)) (λ file. Then (Opens form.to) (λ image. CopiesFrom (is_one_image form.image form.to) form (target_of file) image)) (means-refuses form) old result new p)
-      where
-        go : Follows (Purely (MeansFile form.file)) (λ file. Then (Opens form.to) (λ image. CopiesFrom (is_one_image form.image form.to) form (target_of file) image)) old result new ⊎ IsRefused result old new
-            → MadeIf (is_one_image form.image form.to) (wanted_file form.file)
-        go (inr refused) = inr refused
-        go (inl m) = opened (wanted_file form.file)
-            (subst (λ (n : List Event). Then (Opens form.to) (λ image. CopiesFrom (is_one_image form.image form.to) form (wanted_file form.file) image) n result new) m.done.1
-            (subst (λ (t : Target). Then (Opens form.to) (λ image. CopiesFrom (is_one_image form.image form.to) form t image) m.between result new) m.done.0 m.after))
+    ready : Copies form old result new → MadeIf (is_one_image form.image form.to) (target_of form.file)
+    ready p = opened (target_of form.file) p
 
 -- what each ending of a copy means
 pub copy-ends : FindsSaved → FindsUnsaved → (form : CopyForm) → LeavesFiles (Copies form) → (old : List Event) (result : Result (Unit {0}) Ending) (new : List Event) → Copies form old result new

@@ -1,43 +1,35 @@
--- A file that was put is got back.
-use Rattle.std.proofs.Common.{◌≡◌, ◌∙◌, ℕ, Bool, true, false, Option, Result, Ok, Err, List, ◌∷◌, length, refl, ap, subst, inl, inr, bytes_eq}
+-- Files that were put are got back.
+use Rattle.std.proofs.Common.{◌≡◌, ◌∙◌, ℕ, Bool, true, false, Result, Ok, Err, List, ◌∷◌, length, refl, ap, subst, inl, inr, bytes_eq}
 use Rattle.std.specs.Global.{Vec}
 use Rattle.std.proofs.lemmas.Slice.Eq.{bytes_eq-Decides}
 use Rattle.hosts.specs.Event.{Event, print_call}
 use Rattle.hosts.specs.Place.{about}
-use Rattle.char_pack.specs.declared.forms.GetForm.TheVariants as get_as
-use Rattle.char_pack.specs.declared.forms.PutForm.{PutForm}
-use Rattle.char_pack.specs.declared.forms.PutForm.TheVariants as put_as
-use Rattle.archive_files.specs.Getting.{line_feeds}
-use Rattle.archive_files.specs.Laws.{FramesComeBack, LinesComeBack, TapeComesBack, whole_blocks}
-use Rattle.archive_files.specs.Putting.{PutsFile}
 use Rattle.archive_files.specs.declared.faults.ArchiveFault.{ArchiveFault}
-use Rattle.archive_files.specs.declared.putting.NewImage.{NewImage}
-use Rattle.archive_many.specs.Putting.{info_or}
+use Rattle.archive_many.specs.Putting.{PutsAll}
+use Rattle.archive_many.specs.declared.putting.ManyImage.{ManyImage}
+use Rattle.archive_many.specs.declared.putting.NewFile.{NewFile}
 use Rattle.outcome.specs.declared.endings.Ending.{Ending}
 use Rattle.program_tasks.specs.declared.forms.ImageForm.{ImageForm}
-use Rattle.program_tasks.specs.declared.forms.PutOneForm.{PutOneForm}
+use Rattle.program_tasks.specs.declared.forms.PutFilesForm.{PutFilesForm}
 use Rattle.image_files.specs.Again.{IsFoundAgain, LooksAndFinds, LooksIn}
 use Rattle.image_files.specs.Answers.{Answers, AreLines}
-use Rattle.image_files.specs.Dates.{word_of_day}
 use Rattle.image_files.specs.Laws.{ChangesNothing, HasKeptKind}
 use Rattle.image_files.specs.Reading.{Looks, LooksAt}
 use Rattle.image_files.specs.Saving.{Prints, Saves, SavesIf, Stores}
-use Rattle.image_files.specs.Stored.{stored_line, words_of}
+use Rattle.image_files.specs.Stored.{words_of}
 use Rattle.image_files.specs.Work.{Then, Purely}
-use Rattle.image_files.specs.declared.dates.FileDay.{FileDay}
 use Rattle.image_files.specs.declared.images.Image.{Image}
-use Rattle.keeper_laws.specs.GettingBack.{HasAfter, IsGotBack, LooksAndShows}
-use Rattle.put_commands.specs.Putting.{MakesNew, PutsInto}
+use Rattle.keeper_laws.specs.GettingBack.{HasAfter, LooksAndShows}
+use Rattle.put_commands.specs.Putting.{MakesMany, PutsFiles, stored_lines}
+use Rattle.put_commands.proofs.PutLemmas.{judges-never}
 use Rattle.get_commands.specs.Showing.{Shows}
-use Rattle.keeper_laws.proofs.BackLemmas.{is-printed}
-use Rattle.keeper_laws.proofs.RefusedLemmas.{judges-never}
 
 -- ## What a put that went well has done
 
--- the new image was made, and then saved, and then its line was printed
-pub record HasPut (form : PutOneForm) (image : Image) (bytes : List ℕ) (date : Option ℕ) (old new : List Event) : Type 0 where
-  pub made : NewImage
-  pub puts : PutsFile image.bytes.items form.name.bytes.items form.form bytes (info_or date (words_of form.info)) (Ok made)
+-- the new image was made, and then saved, and then its lines were printed
+pub record HasPut (form : PutFilesForm) (image : Image) (files : List NewFile) (old new : List Event) : Type 0 where
+  pub made : ManyImage
+  pub puts : PutsAll image.bytes.items files (words_of form.info) (Ok made)
   pub begun : List Event
   pub ended : List Event
   pub before : ChangesNothing old begun
@@ -45,7 +37,7 @@ pub record HasPut (form : PutOneForm) (image : Image) (bytes : List ℕ) (date :
   pub line : List ℕ
   pub told : new ≡ print_call true 0 line ∷ ended
 
--- the image was saved, and the line printed
+-- the image was saved, and the lines printed
 record HasStored (image : Image) (bytes : List ℕ) (old new : List Event) : Type 0 where
   pub ended : List Event
   pub saves : Saves image bytes old (Ok tt) ended
@@ -61,12 +53,12 @@ line-stored image bytes text old new (inl ends) = absurd ends
 line-stored image bytes text old new (inr it) =
     subst (λ (events : List Event). HasStored image bytes events new) it.done.1 (has-stored image bytes it.given.items it.between new it.after)
 
-made-stored : (form : PutOneForm) (image : Image) (bytes : List ℕ) (date : Option ℕ) (old between new : List Event) → ChangesNothing old between
-    → Then (MakesNew form image.bytes.items bytes date) (λ made. Then (Purely (AreLines (stored_line made))) (λ line. Stores image made.bytes.items line.items)) between (Ok tt) new
-    → HasPut form image bytes date old new
-made-stored form image bytes date old between new before (inl ends) = absurd ends
-made-stored form image bytes date old between new before (inr it) =
-    let stored = line-stored image it.given.bytes.items (stored_line it.given) it.between new it.after in
+made-stored : (form : PutFilesForm) (image : Image) (files : List NewFile) (old between new : List Event) → ChangesNothing old between
+    → Then (MakesMany form files image.bytes.items) (λ made. Then (Purely (AreLines (stored_lines files made.blocks.items))) (λ lines. Stores image made.bytes.items lines.items)) between (Ok tt) new
+    → HasPut form image files old new
+made-stored form image files old between new before (inl ends) = absurd ends
+made-stored form image files old between new before (inr it) =
+    let stored = line-stored image it.given.bytes.items (stored_lines files it.given.blocks.items) it.between new it.after in
     record {
       made = it.given;
       puts = it.done.0;
@@ -78,65 +70,45 @@ made-stored form image bytes date old between new before (inr it) =
       told = stored.told;
     }
 
-pub has-put : (form : PutOneForm) (image : Image) (bytes : List ℕ) (day : Option FileDay) (old new : List Event) → PutsInto form image bytes day old (Ok tt) new → HasPut form image bytes (word_of_day day) old new
-has-put form image bytes day old new (inl ends) = absurd ends
-has-put form image bytes day old new (inr it) =
-    made-stored form image bytes (word_of_day day) old it.between new (judges-never form image.bytes.items bytes day old (Ok it.given) it.between it.done) it.after
+pub has-put : (form : PutFilesForm) (image : Image) (files : List NewFile) (old new : List Event) → PutsFiles form image files old (Ok tt) new → HasPut form image files old new
+has-put form image files old new (inl ends) = absurd ends
+has-put form image files old new (inr it) =
+    made-stored form image files old it.between new (judges-never form files image.bytes.items old (Ok it.given) it.between it.done) it.after
 
--- ## A file is got back
+-- ## Files are got back
 
--- what the image file has after a put, and that the new image is found in it
-pub record HasIt (form : PutOneForm) (image : Image) (file bytes : List ℕ) (old new : List Event) : Type 0 where
-  pub saved : List ℕ
-  pub held : HasAfter image.place.path.bytes.items file saved old new
-  pub found : IsFoundAgain form.image saved bytes
+module _ (form : PutFilesForm) (image : Image) (file : List ℕ) (files : List NewFile) (old new : List Event) (put : HasPut form image files old new)
+  where
+    -- what the image file has after a put, and that the new image is found in it
+    pub record HasIt : Type 0 where
+      pub saved : List ℕ
+      pub held : HasAfter image.place.path.bytes.items file saved old new
+      pub found : IsFoundAgain form.image saved put.made.bytes.items
 
--- where the image had the bytes before
-has-before : (form : PutOneForm) (image : Image) (file bytes : List ℕ) (date : Option ℕ) (old new : List Event) (put : HasPut form image bytes date old new)
-    → IsFoundAgain form.image file image.bytes.items → image.bytes.items ≡ put.made.bytes.items → put.ended ≡ put.begun → HasIt form image file put.made.bytes.items old new
-has-before form image file bytes date old new put found same idle = record {
-  saved = file;
-  held = record { begun = put.begun; ended = put.ended; before = put.before; held = inl (refl, idle); line = put.line; told = put.told };
-  found = subst (λ (b : List ℕ). IsFoundAgain form.image file b) same found;
-}
-
--- where they were saved
-has-now : (form : PutOneForm) (image : Image) (file bytes : List ℕ) (date : Option ℕ) (old new : List Event) (put : HasPut form image bytes date old new)
-    → (kept : HasKeptKind image put.made.bytes.items put.begun put.ended) → IsFoundAgain form.image kept.file put.made.bytes.items → HasIt form image file put.made.bytes.items old new
-has-now form image file bytes date old new put kept found = record {
-  saved = kept.file;
-  held = record { begun = put.begun; ended = put.ended; before = put.before; held = inr kept.saved; line = put.line; told = put.told };
-  found = found;
-}
-
--- what was there is found, and so is what was saved
-pub has-it : (form : PutOneForm) (image : Image) (file bytes : List ℕ) (date : Option ℕ) (old new : List Event) (put : HasPut form image bytes date old new) → IsFoundAgain form.image file image.bytes.items
-    → (bytes_eq image.bytes.items put.made.bytes.items ≡ false → HasKeptKind image put.made.bytes.items put.begun put.ended)
-    → ((kept : HasKeptKind image put.made.bytes.items put.begun put.ended) → IsFoundAgain form.image kept.file put.made.bytes.items)
-    → HasIt form image file put.made.bytes.items old new
-has-it form image file bytes date old new put found saves again = either (bytes_eq image.bytes.items put.made.bytes.items) refl where
-  either : (is_same : Bool) → bytes_eq image.bytes.items put.made.bytes.items ≡ is_same → HasIt form image file put.made.bytes.items old new
-  either true is = has-before form image file bytes date old new put found ((bytes_eq-Decides image.bytes.items put.made.bytes.items).0 is)
-      (subst (λ (b : Bool). SavesIf b image put.made.bytes.items put.begun (Ok tt) put.ended) is put.saves).1
-  either false is = let kept = saves is in has-now form image file bytes date old new put kept (again kept)
-
-pub got-back : FramesComeBack → TapeComesBack → LinesComeBack → (form : PutOneForm) (image : Image) (file bytes : List ℕ) (date : Option ℕ) (old new : List Event) (put : HasPut form image bytes date old new)
-    → HasIt form image file put.made.bytes.items old new → IsGotBack form image file bytes old new
-got-back frames tape lines form image file bytes date old new put it =
-    let name = form.name.bytes.items in
-    let info = info_or date (words_of form.info) in
-    let puts_as : (kind : PutForm) → form.form ≡ kind → PutsFile image.bytes.items name kind bytes info (Ok put.made) =
-    λ kind is. subst (λ (k : PutForm). PutsFile image.bytes.items name k bytes info (Ok put.made)) is put.puts in
-    record {
-      saved = it.saved;
-      held = it.held;
-      frames = λ is small. is-printed form.image it.saved put.made.bytes.items name (whole_blocks bytes) get_as.Frames it.found
-          (λ answer gets. frames image.bytes.items name bytes info put.made answer small (puts_as put_as.Frames is) gets);
-      tape = λ is small one is_tape. is-printed form.image it.saved put.made.bytes.items name one get_as.Tape it.found
-          (λ answer gets. tape image.bytes.items name bytes one info put.made answer small is_tape (puts_as put_as.Frames is) gets);
-      text = λ is. is-printed form.image it.saved put.made.bytes.items name (line_feeds bytes) get_as.Text it.found
-          (λ answer gets. lines.ends image.bytes.items name bytes info put.made answer (puts_as put_as.Text is) gets);
+    -- where the image had the bytes before
+    has-before : IsFoundAgain form.image file image.bytes.items → image.bytes.items ≡ put.made.bytes.items → put.ended ≡ put.begun → HasIt
+    has-before found same idle = record {
+      saved = file;
+      held = record { begun = put.begun; ended = put.ended; before = put.before; held = inl (refl, idle); line = put.line; told = put.told };
+      found = subst (λ (b : List ℕ). IsFoundAgain form.image file b) same found;
     }
+
+    -- where they were saved
+    has-now : (kept : HasKeptKind image put.made.bytes.items put.begun put.ended) → IsFoundAgain form.image kept.file put.made.bytes.items → HasIt
+    has-now kept found = record {
+      saved = kept.file;
+      held = record { begun = put.begun; ended = put.ended; before = put.before; held = inr kept.saved; line = put.line; told = put.told };
+      found = found;
+    }
+
+    -- what was there is found, and so is what was saved
+    pub has-it : IsFoundAgain form.image file image.bytes.items → (bytes_eq image.bytes.items put.made.bytes.items ≡ false → HasKeptKind image put.made.bytes.items put.begun put.ended)
+        → ((kept : HasKeptKind image put.made.bytes.items put.begun put.ended) → IsFoundAgain form.image kept.file put.made.bytes.items) → HasIt
+    has-it found saves again = either (bytes_eq image.bytes.items put.made.bytes.items) refl where
+      either : (is_same : Bool) → bytes_eq image.bytes.items put.made.bytes.items ≡ is_same → HasIt
+      either true is = has-before found ((bytes_eq-Decides image.bytes.items put.made.bytes.items).0 is)
+          (subst (λ (b : Bool). SavesIf b image put.made.bytes.items put.begun (Ok tt) put.ended) is put.saves).1
+      either false is = let kept = saves is in has-now kept (again kept)
 
 -- ## The file is read first
 

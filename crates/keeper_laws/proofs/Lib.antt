@@ -11,7 +11,6 @@ mod ManyBackLemmas
 pub mod OpenLemmas
 mod PatchLemmas
 pub mod PrepareLemmas
-mod PutAllLemmas
 mod PutLemmas
 pub mod RefuseLemmas
 mod RefusedLemmas
@@ -20,3 +19,4 @@ mod SoundLemmas
 pub mod StoreLemmas
 mod TextLemmas
 mod TouchLemmas
+pub mod AloneLemmas

@@ -32,7 +32,8 @@ use Rattle.image_files.specs.Work.{Then}
 use Rattle.image_files.proofs.ReasonLemmas.{reason-keeps, unless-keeps, unless-output}
 use Rattle.change_commands.specs.Creating.{CreatesFile, IsBlankDisk, IsBlankImage, IsBlankTapeFile, MakesIf, MakesVolume}
 use Rattle.change_commands.specs.declared.creating.TheConstants.{TAPE_BLOCKS, DISK_BLOCKS}
-use Rattle.keeper_laws.specs.Changed.{is_warning, warnings}
+use Rattle.keeper_laws.specs.Changed.{TouchesAlone, is_warning, warnings}
+use Rattle.keeper_laws.proofs.AloneLemmas.{alone-after, alone-before, alone-none, alone-only}
 use Rattle.keeper_laws.specs.Ended.{DoesNothing}
 use Rattle.keeper_laws.specs.Made.{EndsMade, GetsFile, HasCreated, IsFirst, MakesNone, MayBeInPart}
 use Rattle.keeper_laws.proofs.OpenLemmas.{IsQuiet, equal, more-warnings, still}
@@ -48,7 +49,7 @@ pub record IsFirstIf (name file : List ℕ) (old new : List Event) : Type 0 wher
   pub after : warnings (errors new) ≤ warnings (errors old) → (start : Place) (found : Option (List ℕ)) → Leaves (may_leave (replay start (about path new))) found → found ≡ Some file
   pub moments : has_links new ≡ true → (start : Place) (found : Option (List ℕ)) → Leaves (ever start (about path new)) found → (found ≡ Some file) ⊎ Leaves (ever start (about path old)) found
   pub first : replacements (about path new) ≡ replacements (about path old)
-  pub others : (other : List ℕ) → bytes_eq path other ≡ false → about other new ≡ about other old
+  pub alone : TouchesAlone path old new
 
 made-now : (durability : Durability) (file : List ℕ) (old new : List Step) → Makes (Ok durability) file old new → (start : Place) → (replay start new).seen ≡ Just (Some file)
 made-now Certain file old new made start = (made start).seen
@@ -74,7 +75,7 @@ first-made name file old new m = record {
   after = λ few. made-left m.durability file (about (path_of_name new) old) (about (path_of_name new) new) m.made (made-sure m.durability (errors old) (errors new) m.sync few);
   moments = λ has. moment-leaves file (about (path_of_name new) old) (about (path_of_name new) new) (subst (λ b. AnyMomentOf b file (about (path_of_name new) old) (about (path_of_name new) new)) has m.moments);
   first = m.first;
-  others = m.only.others;
+  alone = alone-only (path_of_name new) old new m.only;
 }
 
 -- its line is printed after that
@@ -86,7 +87,7 @@ first-printed name file ok number lines old mid new is f = subst (λ (n : List E
   after = f.after;
   moments = f.moments;
   first = f.first;
-  others = f.others;
+  alone = alone-before f.path old mid (print_call ok number lines ∷ mid) (λ path. refl) f.alone;
 })
 
 few-before : (calls old mid new : List Event) → IsQuiet calls old mid → warnings (errors new) ≤ warnings (errors old) → warnings (errors new) ≤ warnings (errors mid)
@@ -100,14 +101,14 @@ first-after name file calls old mid new quiet f = record {
   after = λ few. f.after (few-before calls old mid new quiet few);
   moments = λ has start found leaves. subst (λ (s : List Step). (found ≡ Some file) ⊎ Leaves (ever start s) found) (quiet.files f.path) (f.moments has start found leaves);
   first = f.first ∙ ap (λ (s : List Step). replacements s) (quiet.files f.path);
-  others = λ other apart. f.others other apart ∙ quiet.files other;
+  alone = alone-after f.path old mid new quiet.files f.alone;
 }
 
 none-more : (old new : List Event) → warnings (errors new) ≡ warnings (errors old) → warnings (errors new) ≤ warnings (errors old)
 none-more old new silent = subst (λ (n : ℕ). warnings (errors new) ≤ n) silent (equal (warnings (errors new)))
 
 first-is : (name file : List ℕ) (old new : List Event) → IsFirstIf name file old new → IsFirst name file old new
-first-is name file old new f = record { path = f.path; asked = f.asked; now = f.now; after = λ silent. f.after (none-more old new silent); moments = f.moments; first = f.first; others = f.others }
+first-is name file old new f = record { path = f.path; asked = f.asked; now = f.now; after = λ silent. f.after (none-more old new silent); moments = f.moments; first = f.first; alone = f.alone }
 
 -- ## A file that gets the bytes
 
@@ -127,7 +128,7 @@ none-made : (name file : List ℕ) (fault : HostFault) (is : Bool) (why : Reason
 none-made name file fault is why old between new unmade told = record {
   path = path_of_name between;
   there = λ start. subst (λ (s : List Step). IsUnmade s (replay start (about (path_of_name between) old)) (replay start s)) (sym (unless-keeps is why name between new told (path_of_name between))) (unmade.unmade start);
-  others = λ other apart. unless-keeps is why name between new told other ∙ unmade.only.others other apart;
+  alone = alone-before (path_of_name between) old between new (unless-keeps is why name between new told) (alone-only (path_of_name between) old between unmade.only);
   prints = unless-output is why name between new told ∙ unmade.only.prints;
 }
 
@@ -135,7 +136,7 @@ pub none-after : (old mid new : List Event) → DoesNothing old mid → MakesNon
 none-after old mid new none m = record {
   path = m.path;
   there = λ start. subst (λ (s : List Step). IsUnmade (about m.path new) (replay start s) (replay start (about m.path new))) (none.0 m.path) (m.there start);
-  others = λ other apart. m.others other apart ∙ none.0 other;
+  alone = alone-after m.path old mid new none.0 m.alone;
   prints = m.prints ∙ none.1;
 }
 
@@ -143,7 +144,7 @@ pub nothing-made : (old new : List Event) → DoesNothing old new → MakesNone 
 nothing-made old new none = record {
   path = [];
   there = λ start. subst (λ (s : List Step). IsUnmade s (replay start (about [] old)) (replay start s)) (sym (none.0 [])) (inl (record { seen = refl; on_disk = refl; earlier = refl }));
-  others = λ other apart. none.0 other;
+  alone = alone-none [] old new none.0;
   prints = none.1;
 }
 
@@ -204,7 +205,7 @@ over-saved path file old mid new quiet saved ok number lines last is was =
       now = λ start had. b.now start (subst (λ (s : List Step). (replay start s).seen ≡ Just (Some was)) (sym (quiet.files path)) had);
       after = λ few. b.after (few-before [] old mid new quiet few);
       moments = λ few start found leaves. subst (λ (s : List Step). (found ≡ Some file) ⊎ Leaves (ever start s) found) (quiet.files path) (b.moments (few-before [] old mid new quiet few) start found leaves);
-      others = λ other apart. b.others other apart ∙ quiet.files other;
+      alone = alone-after path old mid (print_call ok number lines ∷ new) quiet.files (alone-before path mid new (print_call ok number lines ∷ new) (λ p. refl) b.alone);
     })
 
 over-ends : (path name file : List ℕ) (old mid : List Event) (result : Result (Unit {0}) Ending) (new : List Event) → IsQuiet [] old mid → Writes content.Image path name file mid result new → EndsMake false name file result old new
@@ -213,13 +214,13 @@ over-ends path name file old mid (Err (NotWritten it AsItWas)) new quiet (is, fa
   path = path;
   there = λ start. subst (λ (s : List Step). IsUnmade s (replay start (about path old)) (replay start s)) (sym (reason-keeps (reason.Fault fault) name between new told path))
       (inl (subst (λ (s : List Step). IsAsItWas (replay start s) (replay start (about path between))) (quiet.files path) (u.same start)));
-  others = λ other apart. reason-keeps (reason.Fault fault) name between new told other ∙ u.only.others other apart ∙ quiet.files other;
+  alone = alone-after path old mid new quiet.files (alone-before path mid between new (reason-keeps (reason.Fault fault) name between new told) (alone-only path mid between u.only));
   prints = unless-output false (reason.Fault fault) name between new told ∙ u.only.prints ∙ quiet.prints;
 }
 over-ends path name file old mid (Err (NotWritten it InPart)) new quiet (is, fault, between, u, told) = record {
   path = path;
   in_place = told-place (reason.Fault fault) name between new told ∙ u.in_place;
-  others = λ other apart. reason-keeps (reason.Fault fault) name between new told other ∙ u.only.others other apart ∙ quiet.files other;
+  alone = alone-after path old mid new quiet.files (alone-before path mid between new (reason-keeps (reason.Fault fault) name between new told) (alone-only path mid between u.only));
   prints = unless-output false (reason.Fault fault) name between new told ∙ u.only.prints ∙ quiet.prints;
 }
 over-ends path name file old mid (Err (Line it)) new quiet p = absurd p
@@ -283,7 +284,7 @@ by-line done Misuse old new is none = absurd (true≢false (sym is))
 
 part-after : (is_new : Bool) (old mid new : List Event) → DoesNothing old mid → PartIf is_new mid new → MayBeInPart old new
 part-after true old mid new none p = absurd p
-part-after false old mid new none p = record { path = p.path; in_place = p.in_place; others = λ other apart. p.others other apart ∙ none.0 other; prints = p.prints ∙ none.1 }
+part-after false old mid new none p = record { path = p.path; in_place = p.in_place; alone = alone-after p.path old mid new none.0 p.alone; prints = p.prints ∙ none.1 }
 
 -- a file that is not made ends the command
 unmade-ends : (done : Bool → List Event → List Event → Type 0) (is_new : Bool) (name file : List ℕ) (ending : Ending) (old mid new : List Event) → DoesNothing old mid → EndsMake is_new name file (Err ending) mid new → EndsMade done (Err ending) old new

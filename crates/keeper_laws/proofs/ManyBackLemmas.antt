@@ -1,29 +1,42 @@
 -- Of several files that were put or copied at once each is on the volume as it is got.
-use Rattle.std.proofs.Common.{◌≡◌, ◌∙◌, ℕ, Bool, true, false, if◌then◌else◌, Option, None, Some, Ok, List, [], ◌∷◌, sym, ap, subst}
+use Rattle.std.proofs.Common.{◌≡◌, ◌∙◌, ◌<◌, ◌++◌, ℕ, Bool, true, false, if◌then◌else◌, Option, None, Some, Ok, List, [], ◌∷◌, All, arith, refl, sym, ap, subst}
 use Rattle.std.specs.FinMap.{get}
 use Rattle.std.specs.Global.{Vec}
-use Rattle.char_pack.specs.Packing.{packed_blocks}
+use Rattle.char_pack.specs.Packing.{IsBlockPacking, frames, packed_blocks}
+use Rattle.char_pack.specs.declared.forms.GetForm.TheVariants as get_as
 use Rattle.char_pack.specs.declared.forms.PutForm.{PutForm}
 use Rattle.char_pack.specs.declared.forms.PutForm.TheVariants as put_as
 use Rattle.volume_image.specs.Image.{IsImageOf, WrittenIsReadBack}
 use Rattle.os8_dir.specs.Files.{FileData, files_of}
 use Rattle.os8_dir.specs.Names.{with_end_zeros}
+use Rattle.os8_dir.specs.Entries.{IsNamed}
 use Rattle.os8_files.specs.Calls.{info_of}
+use Rattle.os8_files.specs.Mounted.{MountState}
+use Rattle.os8_files.specs.Puts.{HasPutWith}
 use Rattle.name_spelling.specs.Patterns.{is_like_one}
 use Rattle.name_spelling.specs.Reading.{typed_name}
 use Rattle.archive_files.specs.Asking.{AtBlock, OfName}
 use Rattle.archive_files.specs.ChangeLaws.{CopyIsTheSame}
-use Rattle.archive_files.specs.Getting.{IsFile}
+use Rattle.archive_files.specs.Getting.{IsFile, IsTapeOf, line_feeds}
+use Rattle.archive_files.specs.Laws.{LinesComeBack, TapeComesBack, whole_blocks}
 use Rattle.archive_files.specs.Opening.{IsOpened}
-use Rattle.archive_files.specs.Putting.{put_words}
+use Rattle.archive_files.specs.Putting.{PutsFile, information_for, put_words}
+use Rattle.archive_files.specs.declared.putting.NewImage.{NewImage}
 use Rattle.archive_many.specs.Copying.{AreCopied, CopiesAll}
-use Rattle.archive_many.specs.Laws.{HoldsFile, IsNoneOf, LikeAreCopied, OthersStay, copy_or, copy_with}
-use Rattle.archive_many.specs.Putting.{PutsAll}
+use Rattle.archive_many.specs.Laws.{HoldsFile, IsNoneOf, LikeAreCopied, OthersStay, PutAreThere, copy_or, copy_with}
+use Rattle.archive_many.specs.Putting.{ArePut, PutsAll, blocks_in, info_or, words_in}
 use Rattle.archive_many.specs.declared.opened.VolumeFile.{VolumeFile}
 use Rattle.archive_many.specs.declared.putting.ManyImage.{ManyImage}
 use Rattle.archive_many.specs.declared.putting.NewFile.{NewFile}
+use Rattle.program_tasks.specs.declared.forms.ImageForm.{ImageForm}
+use Rattle.program_tasks.specs.declared.forms.PutFilesForm.{PutFilesForm}
+use Rattle.image_files.specs.Again.{IsFoundAgain}
+use Rattle.put_commands.specs.Putting.{Names, given_name, name_or_zeros}
 use Rattle.keeper_laws.specs.CopiedAll.{AreChosen}
-use Rattle.keeper_laws.proofs.AgainLemmas.{one-volume}
+use Rattle.keeper_laws.specs.GettingBack.{IsPrinted}
+use Rattle.keeper_laws.specs.Stored.{AreGiven}
+use Rattle.keeper_laws.proofs.AgainLemmas.{LongerTape, NoFault, got-again, one-volume}
+use Rattle.keeper_laws.proofs.BackLemmas.{is-printed}
 
 some-eq : {X : Type 0} (x y : X) → Some x ≡ Some y → x ≡ y
 some-eq x y same = cc
@@ -45,6 +58,67 @@ other-file law image name words number files info new puts none named file =
     let is : file.number ≡ number = some-eq file.number number (sym file.named ∙ named) in
     let held : HoldsFile image number (file.info, words) = record { blocks = file.blocks; opened = file.opened; there = subst (λ (n : ℕ). get (files_of file.blocks) n ≡ Some (file.info, words)) is file.there } in
     held-file new.bytes.items name words file.info number named (law image files info new number (file.info, words) puts none held)
+
+-- What is got of the volume that a put has left, where its image is found in the file.
+module _ (form : ImageForm) (saved image : List ℕ) (files : List NewFile) (info : Option (List ℕ)) (made : ManyImage) (puts : PutsAll image files info (Ok made)) (found : IsFoundAgain form saved made.bytes.items)
+  where
+    -- frames of a file whose name no later one has
+    pub frames-back : WrittenIsReadBack → LongerTape → NoFault → PutAreThere → ((bytes : List ℕ) → All (λ byte. byte < 256) bytes → IsBlockPacking bytes (packed_blocks bytes))
+        → (before following : List NewFile) (file : NewFile) (name : List ℕ) → files ≡ before ++ file ∷ following → IsNoneOf file.name following → typed_name name ≡ Some file.name → file.form ≡ put_as.Frames
+        → All (λ byte. byte < 256) file.bytes.items → IsPrinted form saved name get_as.Frames (whole_blocks file.bytes.items)
+    frames-back back longer none law packs before following file name are last named is small =
+        let there = law image before following file info made (subst (λ (l : List NewFile). PutsAll image l info (Ok made)) are puts) last in
+        is-printed form saved made.bytes.items name (whole_blocks file.bytes.items) get_as.Frames found
+        (λ answer again. got-again back longer none made.bytes.items name (words_in file) (whole_blocks file.bytes.items) get_as.Frames answer
+        (held-file made.bytes.items name (words_in file) there.0 file.name named there.1)
+        (sym (ap frames (packed-words file.form file.bytes.items is) ∙ (packs file.bytes.items small).reads_back)) again)
+
+-- ## A file that is put alone
+
+module _ (form : ImageForm) (saved image : List ℕ) (files : List NewFile) (info : Option (List ℕ)) (made : ManyImage) (puts : PutsAll image files info (Ok made)) (found : IsFoundAgain form saved made.bytes.items)
+    (file : NewFile) (name : List ℕ) (are : files ≡ file ∷ []) (named : typed_name name ≡ Some file.name)
+  where
+    -- the same image, as that of one file
+    abbrev alone : NewImage
+    alone = record { bytes = made.bytes; name = file.name; blocks = blocks_in file }
+
+    put-alone : PutsAll image (file ∷ []) info (Ok made) → PutsFile image name file.form file.bytes.items (info_or file.date info) (Ok alone)
+    put-alone all = go all.put where
+      go : ArePut all.before info (file ∷ []) all.after → PutsFile image name file.form file.bytes.items (info_or file.date info) (Ok alone)
+      go (next, one, same) = (
+        one.fit,
+        record {
+          before = all.before;
+          after = all.after;
+          mounted = all.mounted;
+          named = named;
+          put = subst (λ (m : MountState). HasPutWith all.before file.name (information_for all.before file.name (info_or file.date info)) (words_in file) m) (sym same) one.put;
+          is_image = all.is_image;
+          blocks_are = refl;
+        },
+      )
+
+    put-as : (kind : PutForm) → file.form ≡ kind → PutsFile image name kind file.bytes.items (info_or file.date info) (Ok alone)
+    put-as kind is = subst (λ (k : PutForm). PutsFile image name k file.bytes.items (info_or file.date info) (Ok alone)) is
+        (put-alone (subst (λ (l : List NewFile). PutsAll image l info (Ok made)) are puts))
+
+    pub tape-back : TapeComesBack → (tape : List ℕ) → file.form ≡ put_as.Frames → All (λ byte. byte < 256) file.bytes.items → IsTapeOf file.bytes.items tape → IsPrinted form saved name get_as.Tape tape
+    tape-back law tape is small is_tape = is-printed form saved made.bytes.items name tape get_as.Tape found
+        (λ answer gets. law image name file.bytes.items tape (info_or file.date info) alone answer small is_tape (put-as put_as.Frames is) gets)
+
+    pub text-back : LinesComeBack → file.form ≡ put_as.Text → IsPrinted form saved name get_as.Text (line_feeds file.bytes.items)
+    text-back law is = is-printed form saved made.bytes.items name (line_feeds file.bytes.items) get_as.Text found
+        (λ answer gets. law.ends image name file.bytes.items (info_or file.date info) alone answer (put-as put_as.Text is) gets)
+
+-- a name that is given is spelled by its text, where the file of it could be put
+pub typed-so : (typed : Option ℕ) (name : ℕ) → name ≡ name_or_zeros typed → IsNamed name → typed ≡ Some name
+typed-so (Some number) name is named = ap (λ (n : ℕ). Some n) (sym is)
+typed-so None name is named = absurd (omega (arith, is, named))
+
+-- the one file that is put under a name that is given
+pub named-so : (asked : PutFilesForm) (paths : List (List ℕ)) (file : NewFile) (text : List ℕ) → AreGiven asked paths (file ∷ []) → given_name asked ≡ Some text → file.name ≡ name_or_zeros (typed_name text)
+named-so asked [] file text given is = absurd given
+named-so asked (path ∷ paths) file text (one, rest) is = some-eq file.name (name_or_zeros (typed_name text)) (subst (λ (g : Option (List ℕ)). Names g path (Some file.name)) is one.named)
 
 -- ## Files that were copied
 

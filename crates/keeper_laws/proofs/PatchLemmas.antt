@@ -5,7 +5,7 @@ use Rattle.hosts.specs.Event.{Event, look_call, print_call}
 use Rattle.hosts.specs.Place.{about}
 use Rattle.hosts.specs.Streams.{output, read}
 use Rattle.block_words.specs.Patching.{Patches}
-use Rattle.script8.specs.declared.faults.SessionFault.TheVariants.{Memory}
+use Rattle.refusals.specs.declared.faults.SessionFault.TheVariants.{Memory}
 use Rattle.outcome.specs.declared.endings.Ending.{Ending}
 use Rattle.outcome.specs.declared.endings.Ending.TheVariants.{Line, Fault, Failure, Busy, NotWritten, FullOutput, Unreported, NoReader, Misuse}
 use Rattle.program_reports.specs.Program.{program_line}

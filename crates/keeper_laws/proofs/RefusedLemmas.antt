@@ -1,5 +1,5 @@
 -- Commands that have changed no file where they are refused.
-use Rattle.std.proofs.Common.{ℕ, Bool, true, false, Option, None, Some, Result, Ok, Err, List, [], ◌∷◌, inl, inr, length, map, bytes_eq, codes}
+use Rattle.std.proofs.Common.{ℕ, Bool, true, false, Option, None, Some, Result, Ok, Err, List, ◌∷◌, inl, inr, length, map}
 use Rattle.hosts.specs.Event.{Event}
 use Rattle.name_spelling.specs.Patterns.{has_pattern}
 use Rattle.outcome.specs.declared.endings.Ending.{Ending}
@@ -11,7 +11,6 @@ use Rattle.archive_files.specs.declared.faults.DeleteFault.{DeleteFault}
 use Rattle.archive_files.specs.declared.faults.DeleteFault.TheVariants.{Archive, Name}
 use Rattle.archive_files.specs.declared.faults.RenameFault.{RenameFault}
 use Rattle.archive_files.specs.declared.faults.RenameFault.TheVariants as rename
-use Rattle.archive_files.specs.declared.places.TextPlace.{TextPlace}
 use Rattle.archive_files.specs.declared.putting.NewImage.{NewImage}
 use Rattle.archive_many.specs.Cutting.{CutsFile}
 use Rattle.archive_files.specs.Squeezing.{SqueezesFiles}
@@ -21,28 +20,19 @@ use Rattle.archive_many.specs.declared.wishes.Wish.TheVariants as wish
 use Rattle.program_tasks.specs.declared.forms.CopyForm.{CopyForm}
 use Rattle.program_tasks.specs.declared.forms.DeleteForm.{DeleteForm}
 use Rattle.program_tasks.specs.declared.forms.ImageForm.{ImageForm}
-use Rattle.program_tasks.specs.declared.forms.PutOneForm.{PutOneForm}
-use Rattle.image_files.specs.Dates.{DatesFile, word_of_day}
-use Rattle.image_files.specs.declared.dates.FileDay.{FileDay}
 use Rattle.image_files.specs.Answers.{Answers, AreLines}
-use Rattle.asked_files.specs.Asking.{AreNamed, MeansFile}
+use Rattle.asked_files.specs.Asking.{AreNamed}
 use Rattle.change_commands.specs.Changing.{Changes, GivesName, RefusesName, Renames, Squeezes}
 use Rattle.change_commands.specs.Choosing.{AreWished, Chooses, FindsAll, MeansFiles, MeansIf, RefusesWish, TellsRefused, one_of_several, word_at, words_in}
 use Rattle.change_commands.specs.Copying.{Copies, CopiesFrom, CopiesInto, MakesCopy, RefusesCopy, TellsCopy, copied_lines}
 use Rattle.image_files.specs.Pairs.{RefusesIf, is_one_image, is_want_of}
 use Rattle.change_commands.specs.Deleting.{Deletes, TakesMeant, TakesOut, RefusesFile}
-use Rattle.put_commands.specs.Putting.{JudgesInfo, JudgesPut, KeepsWords, MakesNew, NotesDate, Puts, PutsInto, TellsIf}
-use Rattle.image_files.specs.Stored.{is_bad_text, TellsPlace, stored_line, words_of}
-use Rattle.image_files.specs.Inputs.{Reads, ReadsIf, TakesInput}
 use Rattle.image_files.specs.Reading.{LooksAt, Opens}
 use Rattle.image_files.specs.Saving.{Stores}
-use Rattle.archive_many.specs.Putting.{given_count, info_words, words_wanted}
-use Rattle.image_files.specs.Information.{TakesWords}
-use Rattle.image_files.proofs.WordsLemmas.{words-never, year-never}
 use Rattle.image_files.specs.Work.{Then, Purely}
 use Rattle.image_files.specs.declared.images.Image.{Image}
 use Rattle.image_files.specs.Laws.{KeepsFiles, ChangesNothing, LeavesFiles}
-use Rattle.image_files.proofs.KeepLemmas.{date-keeps, then-keeps, purely-keeps, looks-keeps, looks-at-keeps}
+use Rattle.image_files.proofs.KeepLemmas.{then-keeps, purely-keeps, looks-at-keeps}
 use Rattle.image_files.proofs.LeaveLemmas.{same, told, then-leaves, refuses-never, answers-never, opens-never, stores-leaves}
 
 -- ## One change of an image
@@ -143,61 +133,5 @@ copies-from true form wanted image = copies-into form wanted image image.bytes.i
 copies-from false form wanted image = then-leaves (LooksAt form.image) (λ from. CopiesInto form wanted image from.items) (looks-at-keeps form.image) (λ from. copies-into form wanted image from.items)
 
 pub copies-leave : (form : CopyForm) → LeavesFiles (Copies form)
-copies-leave form = then-leaves (Purely (MeansFile form.file)) (λ file. Then (Opens form.to) (λ image. CopiesFrom (is_one_image form.image form.to) form (target_of file) image)) (purely-keeps (MeansFile form.file))
-    (λ file. then-leaves (Opens form.to) (λ image. CopiesFrom (is_one_image form.image form.to) form (target_of file) image) (opens-never form.to)
-    (λ image. copies-from (is_one_image form.image form.to) form (target_of file) image))
-
--- ## One file that is put
-
-takes-input-never : KeepsFiles TakesInput
-takes-input-never old (Ok bytes) new p = same _ new p.1
-takes-input-never old (Err ending) new (inl (fault, is, p)) = same _ new p
-takes-input-never old (Err ending) new (inr (bytes, many, inl (is, ok, p))) = same _ new p
-takes-input-never old (Err ending) new (inr (bytes, many, inr (is, p))) = same _ new p
-
-reads-if : (is : Bool) (name : List ℕ) → KeepsFiles (ReadsIf is name)
-reads-if true name old result new p = takes-input-never old result new p
-reads-if false name old result new p = looks-keeps name name old result new p
-
-keeps-words-never : (form : PutOneForm) (image bytes : List ℕ) → KeepsFiles (KeepsWords form image bytes)
-keeps-words-never form image bytes old (Ok it) new p = same old new p.1
-keeps-words-never form image bytes old (Err ending) new (inl (loss, is, ok, p)) = told ok _ old new p
-keeps-words-never form image bytes old (Err ending) new (inr (inl (why, opens, p))) = refuses-never why (length image) old ending new p
-keeps-words-never form image bytes old (Err ending) new (inr (inr p)) = same old new p.1
-
-tells-place : (place : Option TextPlace) (old new : List Event) → TellsPlace place old new → ChangesNothing old new
-tells-place None old new p = same old new p
-tells-place (Some place) old new p = told p.0 _ old new p.1
-
-tells-if : (is : Bool) (fault : ArchiveFault) (bytes : List ℕ) (size : ℕ) (old : List Event) (ending : Ending) (new : List Event) → TellsIf is fault bytes size old ending new → ChangesNothing old new
-tells-if true fault bytes size old ending new (is, (place, finds, p)) = tells-place place old new p
-tells-if false fault bytes size old ending new p = refuses-never fault size old ending new p
-
-makes-new-never : (form : PutOneForm) (image bytes : List ℕ) (date : Option ℕ) → KeepsFiles (MakesNew form image bytes date)
-makes-new-never form image bytes date old (Ok it) new p = same old new p.1
-makes-new-never form image bytes date old (Err ending) new (inl (why, puts, p)) = tells-if (is_bad_text why) why bytes (length image) old ending new p
-makes-new-never form image bytes date old (Err ending) new (inr p) = same old new p.1
-
-notes-date-never : (form : PutOneForm) (image : List ℕ) (day : Option FileDay) → KeepsFiles (NotesDate form image day)
-notes-date-never form image None = year-never image (info_words (words_of form.info)) form.year
-notes-date-never form image (Some day) = year-never image (day.word ∷ []) (Some day.year)
-
-judges-info-never : (form : PutOneForm) (image : List ℕ) (day : Option FileDay) → KeepsFiles (JudgesInfo form image day)
-judges-info-never form image day = then-keeps (TakesWords (words_wanted (given_count (words_of form.info)) (word_of_day day)) image) (λ it. NotesDate form image day)
-    (words-never (words_wanted (given_count (words_of form.info)) (word_of_day day)) image) (λ it. notes-date-never form image day)
-
-pub judges-never : (form : PutOneForm) (image bytes : List ℕ) (day : Option FileDay) → KeepsFiles (JudgesPut form image bytes day)
-judges-never form image bytes day = then-keeps (KeepsWords form image bytes) (λ it. JudgesInfo form image day) (keeps-words-never form image bytes) (λ it. judges-info-never form image day)
-
-puts-into : (form : PutOneForm) (image : Image) (bytes : List ℕ) (day : Option FileDay) → LeavesFiles (PutsInto form image bytes day)
-puts-into form image bytes day =
-    then-leaves (JudgesPut form image.bytes.items bytes day) (λ it. Then (MakesNew form image.bytes.items bytes (word_of_day day)) (λ made. Then (Purely (AreLines (stored_line made))) (λ line. Stores image made.bytes.items line.items)))
-    (judges-never form image.bytes.items bytes day)
-    (λ it. then-leaves (MakesNew form image.bytes.items bytes (word_of_day day)) (λ made. Then (Purely (AreLines (stored_line made))) (λ line. Stores image made.bytes.items line.items))
-    (makes-new-never form image.bytes.items bytes (word_of_day day)) (λ made. lines-leave image made.bytes.items (stored_line made)))
-
-pub puts-leave : (form : PutOneForm) → LeavesFiles (Puts form)
-puts-leave form =
-    then-leaves (Opens form.image) (λ image. Then (Reads form.file.bytes.items) (λ bytes. Then (DatesFile form.is_dated form.file.bytes.items) (λ day. PutsInto form image bytes.items day))) (opens-never form.image)
-    (λ image. then-leaves (Reads form.file.bytes.items) (λ bytes. Then (DatesFile form.is_dated form.file.bytes.items) (λ day. PutsInto form image bytes.items day)) (reads-if (bytes_eq form.file.bytes.items (codes "-")) form.file.bytes.items)
-    (λ bytes. then-leaves (DatesFile form.is_dated form.file.bytes.items) (λ day. PutsInto form image bytes.items day) (date-keeps form.is_dated form.file.bytes.items) (λ day. puts-into form image bytes.items day)))
+copies-leave form = then-leaves (Opens form.to) (λ image. CopiesFrom (is_one_image form.image form.to) form (target_of form.file) image) (opens-never form.to)
+    (λ image. copies-from (is_one_image form.image form.to) form (target_of form.file) image)

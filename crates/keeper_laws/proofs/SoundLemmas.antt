@@ -9,7 +9,7 @@ use Rattle.os8_dir.specs.declared.faults.DirFault.{DirFault}
 use Rattle.archive_files.specs.Checking.{Checks}
 use Rattle.archive_files.specs.declared.faults.ArchiveFault.{ArchiveFault}
 use Rattle.archive_files.specs.declared.faults.ArchiveFault.TheVariants.{Image, Directory, Refused}
-use Rattle.rescue.specs.Rows.{files_by_place}
+use Rattle.volume_salvage.specs.Rows.{files_by_place}
 use Rattle.keeper_laws.specs.Sound.{IsSoundWith}
 use Rattle.keeper_laws.proofs.AgainLemmas.{one-volume}
 

@@ -24,8 +24,9 @@ use Rattle.image_files.specs.Saving.{HasSaved, IsFileWith, IsPlaceTold, IsSyncTo
 use Rattle.image_files.specs.declared.images.Image.{Image}
 use Rattle.image_files.specs.declared.reading.ImagePlace.{ImagePlace}
 use Rattle.image_files.proofs.ReasonLemmas.{reason-keeps, unless-output}
-use Rattle.keeper_laws.specs.Changed.{Becomes, GetsVolume, warnings}
-use Rattle.keeper_laws.specs.Ended.{AllStay, DoesNothing, EndsAs, MayHoldAPart, TouchesAlone, TouchesItAlone}
+use Rattle.keeper_laws.specs.Changed.{Becomes, GetsVolume, TouchesAlone, warnings}
+use Rattle.keeper_laws.specs.Ended.{AllStay, DoesNothing, EndsAs, MayHoldAPart, TouchesItAlone}
+use Rattle.keeper_laws.proofs.AloneLemmas.{alone-after, alone-at, alone-before, alone-only}
 use Rattle.keeper_laws.proofs.OpenLemmas.{FindsSaved, FindsUnsaved, HasOpened, IsQuiet, quiet-then}
 
 -- ## A file that is saved
@@ -36,7 +37,7 @@ pub record BecomesIf (path was file : List ℕ) (old new : List Event) : Type 0 
   pub after : warnings (errors new) ≤ warnings (errors old) → (start : Place) (found : Option (List ℕ)) → Leaves (may_leave (replay start (about path new))) found → found ≡ Some file
   pub moments : warnings (errors new) ≤ warnings (errors old) → (start : Place) (found : Option (List ℕ)) → Leaves (ever start (about path new)) found
       → (found ≡ Some file) ⊎ Leaves (ever start (about path old)) found
-  pub others : (other : List ℕ) → bytes_eq path other ≡ false → about other new ≡ about other old
+  pub alone : TouchesAlone path old new
 
 now-has : (is : Bool) (durability : Durability) (was file : List ℕ) (old new : List Step) → KeepsFile is durability file old new
     → (start : Place) → (replay start old).seen ≡ Just (Some was) → (replay start new).seen ≡ Just (Some file)
@@ -84,7 +85,7 @@ becomes-saved path was file old new s = record {
   after = λ few. crash-leaves file (about path old) (about path new)
       (subst (λ d. KeepsFile true d file (about path old) (about path new)) (sure few).1 (subst (λ b. KeepsFile b s.durability file (about path old) (about path new)) (sure few).0 s.kept));
   moments = λ few. moment-leaves file (about path old) (about path new) (subst (λ b. AnyMomentOf b file (about path old) (about path new)) (sure few).0 s.moments);
-  others = s.only.others;
+  alone = alone-only path old new s.only;
 } where
   sure : warnings (errors new) ≤ warnings (errors old) → (may_replace new ≡ true) × (s.durability ≡ Certain)
   sure few = certain (may_replace new) s.durability (errors old) s.noted (errors new) s.place s.sync few
@@ -145,7 +146,12 @@ printed image was bytes line ok number old mid new is s = subst (λ (n : List Ev
     with = w.with;
     is_held = w.is_held;
     kind = w.kind;
-    becomes = record { now = w.becomes.now; after = w.becomes.after; moments = w.becomes.moments; others = w.becomes.others };
+    becomes = record {
+      now = w.becomes.now;
+      after = w.becomes.after;
+      moments = w.becomes.moments;
+      alone = alone-before image.place.path.bytes.items old mid (print_call ok number line ∷ mid) (λ path. refl) w.becomes.alone;
+    };
   })
   go (inr (same, stays)) = inr (same, stays)
 
@@ -155,7 +161,7 @@ printed image was bytes line ok number old mid new is s = subst (λ (n : List Ev
 record IsPart (image : Image) (old new : List Event) : Type 0 where
   is_held : image.place.is_held ≡ true
   in_place : may_replace new ≡ false
-  others : (other : List ℕ) → bytes_eq image.place.path.bytes.items other ≡ false → about other new ≡ about other old
+  alone : TouchesAlone image.place.path.bytes.items old new
   prints : output new ≡ output old
   reads : read new ≡ read old
 
@@ -196,14 +202,14 @@ told-stay image why name old mid new told stay = record {
 } where
   go : ChangesNothing old mid ⊎ IsAlone image old mid → ChangesNothing old new ⊎ IsAlone image old new
   go (inl none) = inl (λ path. reason-keeps why name mid new told path ∙ none path)
-  go (inr it) = inr (record { is_held = it.is_held; alone = λ other apart. reason-keeps why name mid new told other ∙ it.alone other apart })
+  go (inr it) = inr (record { is_held = it.is_held; alone = alone-before image.place.path.bytes.items old mid new (reason-keeps why name mid new told) it.alone })
 
 -- where the file of one path is as it was, and no other was changed
 all-stay : (image : Image) (old new : List Event) → image.place.is_held ≡ true → StaysAsItWas (about image.place.path.bytes.items old) (about image.place.path.bytes.items new)
     → TouchesOnly image.place.path.bytes.items old new → StaysAll image old new
 all-stay image old new is_held stays only = record {
   files = λ other. go other (bytes_eq path other) refl;
-  touches = inr (record { is_held = is_held; alone = only.others });
+  touches = inr (record { is_held = is_held; alone = alone-only image.place.path.bytes.items old new only });
   prints = only.prints;
 }
   where
@@ -230,7 +236,8 @@ writes-ends image was bytes line file old (NotWritten it AsItWas) new is_held (i
 writes-ends image was bytes line file old (NotWritten it InPart) new is_held (is, fault, mid, u, told) = record {
   is_held = is_held;
   in_place = told-place (reason.Fault fault) image.place.name.bytes.items mid new told ∙ u.in_place;
-  others = λ other apart. reason-keeps (reason.Fault fault) image.place.name.bytes.items mid new told other ∙ u.only.others other apart;
+  alone = alone-before image.place.path.bytes.items old mid new (reason-keeps (reason.Fault fault) image.place.name.bytes.items mid new told)
+      (alone-only image.place.path.bytes.items old mid u.only);
   prints = unless-output false (reason.Fault fault) image.place.name.bytes.items mid new told ∙ u.only.prints;
   reads = told-reads (reason.Fault fault) image.place.name.bytes.items mid new told ∙ u.only.reads;
 }
@@ -295,7 +302,7 @@ becomes path other was file calls old mid new quiet is b = subst (λ (p : List �
   now = λ start had. b.now start (subst (λ (s : List Step). (replay start s).seen ≡ Just (Some was)) (sym (quiet.files other)) had);
   after = λ silent start found leaves. b.after (few silent) start found leaves;
   moments = λ silent start found leaves. subst (λ (s : List Step). (found ≡ Some file) ⊎ Leaves (ever start s) found) (quiet.files other) (b.moments (few silent) start found leaves);
-  others = λ another apart. b.others another apart ∙ quiet.files another;
+  alone = alone-after other old mid new quiet.files b.alone;
 }) where
   few : warnings (errors new) ≡ warnings (errors old) → warnings (errors new) ≤ warnings (errors mid)
   few silent = subst (λ (n : ℕ). n ≤ warnings (errors mid)) (sym silent) quiet.warns
@@ -330,7 +337,7 @@ part-ends form image calls old opened_at mid new o quiet reads part =
       reads = part.reads ∙ reads;
       in_place = part.in_place;
       prints = part.prints ∙ quiet.prints;
-      others = λ other apart. part.others other (subst (λ (p : List ℕ). bytes_eq p other ≡ false) path_is apart) ∙ quiet.files other;
+      alone = alone-at o.path image.place.path.bytes.items old new path_is (alone-after image.place.path.bytes.items old mid new quiet.files part.alone);
     }
 
 stays-after : (form : ImageForm) (image : Image) (calls old opened_at mid new : List Event) (o : HasOpened form old image opened_at) → IsQuiet calls old mid → StaysAll image mid new → AllStay form old new
@@ -346,7 +353,8 @@ stays-after form image calls old opened_at mid new o quiet stay = record {
     path = o.path;
     held = o.opened.held;
     is_held = it.is_held;
-    alone = λ other apart. it.alone other (subst (λ (p : List ℕ). bytes_eq p other ≡ false) (o.path_is ∙ held-path image.place form.file.bytes.items it.is_held) apart) ∙ quiet.files other;
+    alone = alone-at o.path image.place.path.bytes.items old new (o.path_is ∙ held-path image.place form.file.bytes.items it.is_held)
+        (alone-after image.place.path.bytes.items old mid new quiet.files it.alone);
   })
 
 -- how the change that was to be stored has ended

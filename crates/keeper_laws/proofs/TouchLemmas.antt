@@ -18,11 +18,11 @@ gets-touches form image path was bytes old new opened gets = go gets.has
   where
     go : ((image.place.is_held ≡ true) × IsFileWith image bytes gets.file × Becomes path was gets.file old new) ⊎ ((bytes ≡ image.bytes.items) × (gets.file ≡ was) × ChangesNothing old new)
         → TouchesItAlone form old new
-    go (inl (is_held, with, becomes)) = inr (record { place = image.place; path = path; held = opened.held; is_held = is_held; alone = becomes.others })
+    go (inl (is_held, with, becomes)) = inr (record { place = image.place; path = path; held = opened.held; is_held = is_held; alone = becomes.alone })
     go (inr (same, is, none)) = inl none
 
 part-touches : (form : ImageForm) (old new : List Event) → MayHoldAPart form old new → TouchesItAlone form old new
-part-touches form old new part = inr (record { place = part.place; path = part.path; held = part.held; is_held = part.is_held; alone = part.others })
+part-touches form old new part = inr (record { place = part.place; path = part.path; held = part.held; is_held = part.is_held; alone = part.alone })
 
 abbrev pub DoneTouches : ImageForm → (Bool → List Event → List Event → Type 0) → Type 0
 DoneTouches form done = (ok : Bool) (old new : List Event) → done ok old new → TouchesItAlone form old new
@@ -63,15 +63,15 @@ patch-touches form done touches result old new (inr p) = aloud-touches form resu
 -- ## New files
 
 first-touches : (name file : List ℕ) (old new : List Event) → IsFirst name file old new → TouchesOne old new
-first-touches name file old new first = (first.path, first.others)
+first-touches name file old new first = (first.path, first.alone)
 
 pub file-touches : (is_new : Bool) (name file : List ℕ) (old new : List Event) → GetsFile is_new name file old new → TouchesOne old new
 file-touches true name file old new first = first-touches name file old new first
 file-touches false name file old new (inl first) = first-touches name file old new first
-file-touches false name file old new (inr (path, becomes)) = (path, (becomes []).others)
+file-touches false name file old new (inr (path, becomes)) = (path, (becomes []).alone)
 
 none-touches : (old new : List Event) → MakesNone old new → TouchesOne old new
-none-touches old new none = (none.path, none.others)
+none-touches old new none = (none.path, none.alone)
 
 abbrev MadeTouches : (Bool → List Event → List Event → Type 0) → Type 0
 MadeTouches done = (ok : Bool) (old new : List Event) → done ok old new → TouchesOne old new
@@ -81,7 +81,7 @@ made-touches done touches (Ok it) old new s = touches true old new s
 made-touches done touches (Err Unreported) old new s = touches false old new s
 made-touches done touches (Err NoReader) old new s = touches false old new s
 made-touches done touches (Err (NotWritten it AsItWas)) old new s = none-touches old new s
-made-touches done touches (Err (NotWritten it InPart)) old new s = (s.path, s.others)
+made-touches done touches (Err (NotWritten it InPart)) old new s = (s.path, s.alone)
 made-touches done touches (Err (Line it)) old new s = none-touches old new s
 made-touches done touches (Err (Fault it)) old new s = none-touches old new s
 made-touches done touches (Err (Busy it)) old new s = none-touches old new s
@@ -90,7 +90,7 @@ made-touches done touches (Err FullOutput) old new s = absurd s
 made-touches done touches (Err Misuse) old new s = absurd s
 
 has-touches : (name : List ℕ) (form : ImageForm) (is_whole ok : Bool) (old new : List Event) → HasRescued name form is_whole ok old new → TouchesOne old new
-has-touches name form is_whole ok old new it = (it.has.path, it.has.others)
+has-touches name form is_whole ok old new it = (it.has.path, it.has.alone)
 
 pub rescue-touches : (name : List ℕ) (form : ImageForm) (result : Result (Unit {0}) Ending) (old new : List Event) → EndsRescued name form result old new → TouchesOne old new
 rescue-touches name form (Ok it) old new s = has-touches name form true true old new s

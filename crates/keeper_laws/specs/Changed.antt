@@ -3,6 +3,7 @@ use Rattle.std.specs.Prelude.{◌≡◌, ◌⊎◌, ◌||◌, ℕ, suc, Bool, tr
 use Rattle.std.specs.Str.{bytes_eq}
 use Rattle.hosts.specs.Event.{Event}
 use Rattle.hosts.specs.Place.{Place, Just, Leaves, may_leave, about, replay, ever}
+use Rattle.hosts.specs.Saving.{ClearsBeside}
 use Rattle.hosts.specs.Streams.{errors}
 use Rattle.image_kind.specs.Margins.{body_by, margins_in}
 use Rattle.image_kind.specs.Volumes.{volumes_in}
@@ -62,6 +63,12 @@ IsUnwarned old new = warnings (errors new) ≡ warnings (errors old)
 
 -- ## The file after
 
+-- The file at one path, and the one beside it, may be made, changed or removed, and no other. None is left beside it, unless that could not be
+-- taken away.
+pub record TouchesAlone (path : List ℕ) (old new : List Event) : Type 0 where
+  pub others : (other : List ℕ) → bytes_eq path other ≡ false → about other new ≡ about other old
+  pub beside : ClearsBeside (about path old) (about path new)
+
 -- The file of a path, which had these bytes, has others now. Unless a note warns of it, a crash now leaves these. One at any moment before left
 -- these, whole, or what it might have left before the command. No other file is changed.
 pub record Becomes (path was file : List ℕ) (old new : List Event) : Type 0 where
@@ -69,7 +76,7 @@ pub record Becomes (path was file : List ℕ) (old new : List Event) : Type 0 wh
   pub after : IsUnwarned old new → (start : Place) (found : Option (List ℕ)) → Leaves (may_leave (replay start (about path new))) found → found ≡ Some file
   pub moments : IsUnwarned old new → (start : Place) (found : Option (List ℕ)) → Leaves (ever start (about path new)) found
       → (found ≡ Some file) ⊎ Leaves (ever start (about path old)) found
-  pub others : (other : List ℕ) → bytes_eq path other ≡ false → about other new ≡ about other old
+  pub alone : TouchesAlone path old new
 
 -- The image file of a path has a volume of these bytes now, and each byte beside the volume as it was. It is held while it is changed. Where it
 -- had that volume nothing is changed. Whoever reads it by such a form finds these bytes.

@@ -13,7 +13,7 @@ use Rattle.image_files.specs.Pairs.{is_one_image}
 use Rattle.image_files.specs.Reading.{LooksAt}
 use Rattle.image_files.specs.declared.images.Image.{Image}
 use Rattle.change_commands.specs.Copying.{copied_lines, new_name}
-use Rattle.asked_files.specs.Asking.{wanted_file}
+use Rattle.archive_files.specs.Asking.{target_of}
 use Rattle.keeper_laws.specs.Changed.{GetsVolume, IsOpened}
 
 -- the volume in another image file is found in what these calls read
@@ -42,8 +42,8 @@ pub record HasCopied (form : CopyForm) (ok : Bool) (old new : List Event) : Type
   pub source : IsSource (is_one_image form.image form.to) form.image image calls from
   pub reads : read new ≡ calls ++ (look_call path was ∷ read old)
   pub made : NewImage
-  pub copies : CopiesFile from (wanted_file form.file) image.bytes.items (new_name form) (Ok made)
+  pub copies : CopiesFile from (target_of form.file) image.bytes.items (new_name form) (Ok made)
   pub cut : Option VolumeFile
-  pub cuts : CutsFile from (wanted_file form.file) image.bytes.items (Ok cut)
+  pub cuts : CutsFile from (target_of form.file) image.bytes.items (Ok cut)
   pub has : GetsVolume form.to image path was made.bytes.items old new
   pub prints : output new ≡ (ok, copied_lines made cut) ∷ output old

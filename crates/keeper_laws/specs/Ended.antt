@@ -1,6 +1,5 @@
 -- What each ending of a change means for the files of who runs it.
 use Rattle.std.specs.Prelude.{◌≡◌, ◌⊎◌, ℕ, Bool, true, false, Result, Ok, Err, List, ◌∷◌, ◌++◌}
-use Rattle.std.specs.Str.{bytes_eq}
 use Rattle.hosts.specs.Event.{Event, look_call}
 use Rattle.hosts.specs.Place.{about}
 use Rattle.hosts.specs.Saving.{StaysAsItWas}
@@ -11,15 +10,11 @@ use Rattle.outcome.specs.declared.endings.Ending.TheVariants.{Line, Fault, Failu
 use Rattle.program_tasks.specs.declared.forms.ImageForm.{ImageForm}
 use Rattle.image_files.specs.Laws.{ChangesNothing}
 use Rattle.image_files.specs.declared.reading.ImagePlace.{ImagePlace}
-use Rattle.keeper_laws.specs.Changed.{IsHeldAt}
+use Rattle.keeper_laws.specs.Changed.{IsHeldAt, TouchesAlone}
 
 -- no file is changed, and no line of a change is printed
 abbrev pub DoesNothing : List Event → List Event → Type 0
 DoesNothing old new = ChangesNothing old new × (output new ≡ output old)
-
--- the file at one path, and the one beside it, may be made, changed or removed, and no other
-abbrev pub TouchesAlone : List ℕ → List Event → List Event → Type 0
-TouchesAlone path old new = (other : List ℕ) → bytes_eq path other ≡ false → about other new ≡ about other old
 
 -- one file at most is touched so
 abbrev pub TouchesOne : List Event → List Event → Type 0
@@ -54,7 +49,7 @@ pub record MayHoldAPart (form : ImageForm) (old new : List Event) : Type 0 where
   pub calls : List Event
   pub reads : read new ≡ calls ++ (look_call path was ∷ read old)
   pub in_place : may_replace new ≡ false
-  pub others : TouchesAlone path old new
+  pub alone : TouchesAlone path old new
   pub prints : output new ≡ output old
 
 -- What is to be done is done where the command ends well, and where only its line can't be printed. A refusal changes nothing. An image that

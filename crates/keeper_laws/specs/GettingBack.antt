@@ -1,18 +1,20 @@
 -- What is got of an image file in which a file was put.
-use Rattle.std.specs.Prelude.{◌≡◌, ◌⊎◌, ◌<◌, ℕ, true, Result, Ok, Err, List, ◌∷◌, All, length}
+use Rattle.std.specs.Prelude.{◌≡◌, ◌⊎◌, ◌<◌, ℕ, true, Some, Result, Ok, Err, List, [], ◌∷◌, ◌++◌, All, length}
 use Rattle.std.specs.Global.{Vec}
 use Rattle.hosts.specs.Event.{Event, print_call}
 use Rattle.char_pack.specs.declared.forms.GetForm.{GetForm}
 use Rattle.char_pack.specs.declared.forms.GetForm.TheVariants as get_as
 use Rattle.char_pack.specs.declared.forms.PutForm.TheVariants as put_as
+use Rattle.name_spelling.specs.Reading.{typed_name}
 use Rattle.archive_files.specs.Asking.{OfName}
 use Rattle.archive_files.specs.Getting.{Gets, IsTapeOf, line_feeds}
 use Rattle.archive_files.specs.Laws.{whole_blocks}
 use Rattle.archive_files.specs.declared.faults.ArchiveFault.{ArchiveFault}
+use Rattle.archive_many.specs.Laws.{IsNoneOf}
+use Rattle.archive_many.specs.declared.putting.NewFile.{NewFile}
 use Rattle.outcome.specs.declared.contents.Content.TheVariants as content
 use Rattle.outcome.specs.declared.endings.Ending.{Ending}
 use Rattle.program_tasks.specs.declared.forms.ImageForm.{ImageForm}
-use Rattle.program_tasks.specs.declared.forms.PutOneForm.{PutOneForm}
 use Rattle.image_files.specs.Again.{AreAlike, EndsForMemory, LooksIn}
 use Rattle.image_files.specs.Answers.{Answers}
 use Rattle.image_files.specs.Laws.{ChangesNothing}
@@ -54,13 +56,14 @@ IsPrinted form file name how bytes =
     (again : ImageForm) (old new : List Event) (result : Result (Unit {0}) Ending) → AreAlike form again
     → ShowsIn (λ image. Gets image (OfName name) how) again file old result new → PrintsOrLacks bytes old result new
 
--- The bytes that were put are got back. Frames have zeros to the end of their last block, and a tape is the one that they begin with. A text
--- has LF alone at the end of each line.
-pub record IsGotBack (form : PutOneForm) (image : Image) (file bytes : List ℕ) (old new : List Event) : Type 0 where
+-- The bytes that were put are got back. Frames have zeros to the end of their last block. Of a file that is put alone a tape is the one that it begins
+-- with, and a text has LF alone at the end of each line.
+pub record IsGotBack (form : ImageForm) (image : Image) (file : List ℕ) (files : List NewFile) (old new : List Event) : Type 0 where
   pub saved : List ℕ
   pub held : HasAfter image.place.path.bytes.items file saved old new
-  pub frames : form.form ≡ put_as.Frames → All (λ byte. byte < 256) bytes
-      → IsPrinted form.image saved form.name.bytes.items get_as.Frames (whole_blocks bytes)
-  pub tape : form.form ≡ put_as.Frames → All (λ byte. byte < 256) bytes → (tape : List ℕ) → IsTapeOf bytes tape
-      → IsPrinted form.image saved form.name.bytes.items get_as.Tape tape
-  pub text : form.form ≡ put_as.Text → IsPrinted form.image saved form.name.bytes.items get_as.Text (line_feeds bytes)
+  pub frames : (before following : List NewFile) (one : NewFile) (name : List ℕ) → files ≡ before ++ one ∷ following → IsNoneOf one.name following → typed_name name ≡ Some one.name
+      → one.form ≡ put_as.Frames → All (λ byte. byte < 256) one.bytes.items → IsPrinted form saved name get_as.Frames (whole_blocks one.bytes.items)
+  pub tape : (one : NewFile) (name tape : List ℕ) → files ≡ one ∷ [] → typed_name name ≡ Some one.name → one.form ≡ put_as.Frames → All (λ byte. byte < 256) one.bytes.items
+      → IsTapeOf one.bytes.items tape → IsPrinted form saved name get_as.Tape tape
+  pub text : (one : NewFile) (name : List ℕ) → files ≡ one ∷ [] → typed_name name ≡ Some one.name → one.form ≡ put_as.Text
+      → IsPrinted form saved name get_as.Text (line_feeds one.bytes.items)

@@ -8,4 +8,3 @@ pub mod Held
 pub mod Made
 pub mod Sound
 pub mod Stored
-pub mod StoredAll

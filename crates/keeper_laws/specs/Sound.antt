@@ -6,7 +6,7 @@ use Rattle.archive_files.specs.Checking.{IsChecked}
 use Rattle.archive_files.specs.declared.faults.ArchiveFault.{ArchiveFault}
 use Rattle.archive_files.specs.declared.faults.ArchiveFault.TheVariants.{Refused}
 use Rattle.archive_survey.specs.Findings.{findings, files_found}
-use Rattle.script8.specs.declared.faults.SessionFault.TheVariants.{Memory}
+use Rattle.refusals.specs.declared.faults.SessionFault.TheVariants.{Memory}
 use Rattle.volume_salvage.specs.Laws.{names_kept}
 use Rattle.volume_salvage.specs.Salvaging.{IsSalvaged}
 use Rattle.volume_salvage.specs.declared.salvages.Salvage.{Salvage}

@@ -8,10 +8,9 @@ ghost use Rattle.char_pack.specs.declared.forms.GetForm.TheVariants as get_as;
 ghost use Rattle.char_pack.specs.declared.forms.PutForm.TheVariants as put_as;
 ghost use Rattle.name_spelling.specs.Patterns.{is_like_one};
 ghost use Rattle.name_spelling.specs.Reading.{typed_name};
-ghost use Rattle.volume_image.specs.Image.{IsImageOf};
 ghost use Rattle.archive_files.specs.declared.faults.ArchiveFault.{ArchiveFault as Fault};
 ghost use Rattle.archive_files.specs.Checking.{Checks};
-ghost use Rattle.archive_files.specs.Asking.{OfName, Target, asked_name};
+ghost use Rattle.archive_files.specs.Asking.{OfName, Target, target_of};
 ghost use Rattle.archive_files.specs.Getting.{Gets, IsTapeOf, line_feeds};
 ghost use Rattle.archive_files.specs.Laws.{whole_blocks};
 ghost use Rattle.archive_many.specs.Laws.{IsNoneOf};
@@ -22,13 +21,11 @@ ghost use Rattle.program_tasks.specs.declared.forms.CopyManyForm.{CopyManyForm a
 ghost use Rattle.program_tasks.specs.declared.forms.CreateForm.{CreateForm as Create};
 ghost use Rattle.program_tasks.specs.declared.forms.DeleteForm.{DeleteForm as Delete};
 ghost use Rattle.program_tasks.specs.declared.forms.ImageForm.{ImageForm as Kept};
-ghost use Rattle.program_tasks.specs.declared.forms.PutManyForm.{PutManyForm as PutMany};
-ghost use Rattle.program_tasks.specs.declared.forms.PutOneForm.{PutOneForm as PutOne};
+ghost use Rattle.program_tasks.specs.declared.forms.PutFilesForm.{PutFilesForm as Put};
 ghost use Rattle.image_files.specs.Reading.{Opens};
 ghost use Rattle.image_files.specs.declared.images.Image.{Image as Opened};
 ghost use Rattle.change_commands.specs.Patching.{PatchesWord};
 ghost use Rattle.change_commands.specs.declared.patches.WordPatch.{WordPatch as Patch};
-ghost use Rattle.put_commands.specs.PuttingMany.{PutsMany};
 ghost use Rattle.salvage_commands.specs.Rescuing.{RescuesImage};
 ghost use Rattle.change_commands.specs.CopyingMany.{CopiesMany, words_in};
 ghost use Rattle.change_commands.specs.Changing.{Renames, Squeezes};
@@ -37,8 +34,7 @@ ghost use Rattle.change_commands.specs.Creating.{CreatesFile, CreatesVolume, IsB
 ghost use Rattle.change_commands.specs.declared.creating.TheConstants.{TAPE_BLOCKS, DISK_BLOCKS};
 ghost use Rattle.change_commands.specs.Deleting.{Deletes};
 ghost use Rattle.keeper_laws.specs.GettingBack.{IsPrinted};
-ghost use Rattle.put_commands.specs.Putting.{Puts};
-ghost use Rattle.asked_files.specs.Asking.{wanted_file};
+ghost use Rattle.put_commands.specs.Putting.{Puts, given_name};
 ghost use Rattle.keeper_laws.specs.Changes.{HasDeleted, HasEmptied, HasPatched, HasRenamed, HasSqueezed};
 ghost use Rattle.keeper_laws.specs.Copied.{HasCopied};
 ghost use Rattle.keeper_laws.specs.CopiedAll.{HasCopiedAll};
@@ -47,7 +43,6 @@ ghost use Rattle.keeper_laws.specs.Held.{GoesOnStill, IsHeldSince, calls_of};
 ghost use Rattle.keeper_laws.specs.Made.{EndsMade, EndsRescued, HasCreated, HasRescued};
 ghost use Rattle.keeper_laws.specs.Sound.{IsSoundWith, kept_names};
 ghost use Rattle.keeper_laws.specs.Stored.{HasStored};
-ghost use Rattle.keeper_laws.specs.StoredAll.{HasStoredAll};
 
 use crate::verb_laws::refused_changes;
 use archive_files::laws::{copied_file, put_is_got};
@@ -60,13 +55,15 @@ use volume_image::image_round_trip;
 use volume_salvage::laws::salvaged_files;
 
 /// What each ending of `put`, `copy`, `squeeze`, `rename` and `delete` means for the files of who runs them. The change is made where the command
-/// ends well, and where only its line can't be printed. Where it is refused, nothing is changed. Where its image can't be written, that is
-/// as it was, or the ending says that it may hold a part.
+/// ends well, and where only its lines can't be printed. Of several files all are stored, or none is. Where it is refused, nothing is changed.
+/// Where its image can't be written, that is as it was, or the ending says that it may hold a part.
 pub fn ended_changes()
-    ensures puts { (form : PutOne) (old : List Event) (result : Result (Unit {0}) End) (new : List Event) → Puts form old result new
+    ensures puts { (form : Put) (old : List Event) (result : Result (Unit {0}) End) (new : List Event) → Puts form old result new
         → EndsAs form.image (HasStored form) result old new }
     ensures copies { (form : Copy) (old : List Event) (result : Result (Unit {0}) End) (new : List Event) → Copies form old result new
         → EndsAs form.to (HasCopied form) result old new }
+    ensures copies_all { (form : CopyMany) (old : List Event) (result : Result (Unit {0}) End) (new : List Event) → CopiesMany form old result new
+        → EndsAs form.to (HasCopiedAll form) result old new }
     ensures squeezes { (form : Kept) (old : List Event) (result : Result (Unit {0}) End) (new : List Event) → Squeezes form old result new
         → EndsAs form (HasSqueezed form) result old new }
     ensures renames { (wanted : Target) (other : List ℕ) (form : Kept) (old : List Event) (result : Result (Unit {0}) End) (new : List Event)
@@ -75,16 +72,6 @@ pub fn ended_changes()
         → EndsAs form.image (HasDeleted form) result old new }
 {
     refused_changes();
-    found_again();
-}
-
-/// The same of `put` and `copy` of several files: all are stored, or none is.
-pub fn ended_many()
-    ensures puts { (form : PutMany) (old : List Event) (result : Result (Unit {0}) End) (new : List Event) → PutsMany form old result new
-        → EndsAs form.image (HasStoredAll form) result old new }
-    ensures copies { (form : CopyMany) (old : List Event) (result : Result (Unit {0}) End) (new : List Event) → CopiesMany form old result new
-        → EndsAs form.to (HasCopiedAll form) result old new }
-{
     found_again();
 }
 
@@ -117,11 +104,9 @@ pub fn ended_creations()
 {}
 
 /// Which file a command that changes an image makes, changes or takes away, in whichever way it ends. That is none, or the image file alone,
-/// which it held before, and the one beside that.
+/// which it held before, and the one beside that. None is left beside it, unless that could not be taken away.
 pub fn touched_files()
-    ensures puts { (form : PutOne) (old : List Event) (result : Result (Unit {0}) End) (new : List Event) → Puts form old result new
-        → TouchesItAlone form.image old new }
-    ensures puts_all { (form : PutMany) (old : List Event) (result : Result (Unit {0}) End) (new : List Event) → PutsMany form old result new
+    ensures puts { (form : Put) (old : List Event) (result : Result (Unit {0}) End) (new : List Event) → Puts form old result new
         → TouchesItAlone form.image old new }
     ensures copies { (form : Copy) (old : List Event) (result : Result (Unit {0}) End) (new : List Event) → Copies form old result new
         → TouchesItAlone form.to old new }
@@ -139,11 +124,11 @@ pub fn touched_files()
         → TouchesItAlone form old new }
 {
     ended_changes();
-    ended_many();
     ended_words();
 }
 
 /// Which file `create` and `rescue` make, change or take away, in whichever way they end: the one of one path at most, and the one beside that.
+/// None is left beside it, unless that could not be taken away.
 pub fn touched_places()
     ensures volumes { (form : Create) (blocks : ℕ) (old : List Event) (result : Result (Unit {0}) End) (new : List Event)
         → CreatesFile (IsBlankImage blocks) form blocks old result new → TouchesOne old new }
@@ -169,43 +154,52 @@ pub fn held_images()
     lost_updates();
 }
 
-/// After `put` with status 0 the image file has its volume with the file that was read, and each byte beside the volume as it was. So it is
+/// After `put` with status 0 the image file has its volume with the files that were read, and each byte beside the volume as it was. So it is
 /// after a crash, unless a note says otherwise. A crash before that left this, whole, or what it might have left before. Whoever reads the
 /// image again finds that volume. No other file is changed, and STORED was printed.
 pub fn done_put()
-    ensures { (form : PutOne) (old new : List Event) → Puts form old (Ok tt) new → HasStored form true old new }
+    ensures { (form : Put) (old new : List Event) → Puts form old (Ok tt) new → HasStored form true old new }
 {
     ended_changes();
 }
 
-/// What `put` took, `get` gives, where the image file is as it was left. Frames have zeros to the end of their last block, and a tape is the one
-/// that they begin with. A text has LF alone at the end of each line. Another file is got as before, in each form.
+/// What `put` took, `get` gives, where the image file is as it was left. So it is of each file put as frames whose name no later one has: its bytes
+/// have zeros to the end of their last block. Of a file that is put alone a tape is the one that it begins with, and a text has LF alone at the
+/// end of each line. It has the name that was given for it. Another file is got as before, in each form.
 pub fn put_comes_back()
-    ensures frames { (form : PutOne) (ok : Bool) (old new : List Event) (stored : HasStored form ok old new) → form.form ≡ put_as.Frames
-        → All (λ byte. byte < 256) stored.given
-        → IsPrinted form.image stored.has.file form.name.bytes.items get_as.Frames (whole_blocks stored.given) }
-    ensures tape { (form : PutOne) (ok : Bool) (old new : List Event) (stored : HasStored form ok old new) (tape : List ℕ) → form.form ≡ put_as.Frames
-        → All (λ byte. byte < 256) stored.given → IsTapeOf stored.given tape
-        → IsPrinted form.image stored.has.file form.name.bytes.items get_as.Tape tape }
-    ensures text { (form : PutOne) (ok : Bool) (old new : List Event) (stored : HasStored form ok old new) → form.form ≡ put_as.Text
-        → IsPrinted form.image stored.has.file form.name.bytes.items get_as.Text (line_feeds stored.given) }
-    ensures others { (form : PutOne) (ok : Bool) (old new : List Event) (stored : HasStored form ok old new) (blocks : List (List ℕ)) (name : List ℕ) (how : How)
-        (before : Vec ℕ) → IsImageOf stored.image.bytes.items blocks → asked_name blocks (OfName name) ≢ typed_name form.name.bytes.items
-        → Gets stored.image.bytes.items (OfName name) how (Ok before) → IsPrinted form.image stored.has.file name how before.items }
+    ensures named { (form : Put) (ok : Bool) (old new : List Event) (stored : HasStored form ok old new) (file : NewFile) (text : List ℕ)
+        → stored.files ≡ file ∷ [] → given_name form ≡ Some text → typed_name text ≡ Some file.name }
+    ensures frames { (form : Put) (ok : Bool) (old new : List Event) (stored : HasStored form ok old new) (before following : List NewFile) (file : NewFile)
+        (name : List ℕ) → stored.files ≡ before ++ file ∷ following → IsNoneOf file.name following → typed_name name ≡ Some file.name → file.form ≡ put_as.Frames
+        → All (λ byte. byte < 256) file.bytes.items → IsPrinted form.image stored.has.file name get_as.Frames (whole_blocks file.bytes.items) }
+    ensures tape { (form : Put) (ok : Bool) (old new : List Event) (stored : HasStored form ok old new) (file : NewFile) (name tape : List ℕ)
+        → stored.files ≡ file ∷ [] → typed_name name ≡ Some file.name → file.form ≡ put_as.Frames → All (λ byte. byte < 256) file.bytes.items
+        → IsTapeOf file.bytes.items tape → IsPrinted form.image stored.has.file name get_as.Tape tape }
+    ensures text { (form : Put) (ok : Bool) (old new : List Event) (stored : HasStored form ok old new) (file : NewFile) (name : List ℕ)
+        → stored.files ≡ file ∷ [] → typed_name name ≡ Some file.name → file.form ≡ put_as.Text
+        → IsPrinted form.image stored.has.file name get_as.Text (line_feeds file.bytes.items) }
+    ensures others { (form : Put) (ok : Bool) (old new : List Event) (stored : HasStored form ok old new) (name : List ℕ) (number : ℕ) (how : How)
+        (before : Vec ℕ) → typed_name name ≡ Some number → IsNoneOf number stored.files → Gets stored.image.bytes.items (OfName name) how (Ok before)
+        → IsPrinted form.image stored.has.file name how before.items }
 {
+    image_round_trip();
+    longer_tape();
+    no_fault();
+    packed_bytes();
     put_is_got();
+    put_many_is_got();
 }
 
 /// What `copy` copied, `get` gives of the image file as it was left, in each form: the bytes that it gave of the file that was copied. The copy has
 /// the name that was typed for it, or else the one by which its file was asked for. Each other file is got as before.
 pub fn copy_comes_back()
     ensures copies { (form : Copy) (ok : Bool) (old new : List Event) (copied : HasCopied form ok old new) (name : List ℕ) (how : How) (before : Vec ℕ)
-        → typed_name name ≡ Some copied.made.name → Gets copied.from (wanted_file form.file) how (Ok before)
+        → typed_name name ≡ Some copied.made.name → Gets copied.from (target_of form.file) how (Ok before)
         → IsPrinted form.to copied.has.file name how before.items }
     ensures typed { (form : Copy) (ok : Bool) (old new : List Event) (copied : HasCopied form ok old new) (name : List ℕ) → new_name form ≡ Some name
         → typed_name name ≡ Some copied.made.name }
     ensures kept { (form : Copy) (ok : Bool) (old new : List Event) (copied : HasCopied form ok old new) (name : List ℕ) → new_name form ≡ None
-        → wanted_file form.file ≡ OfName name → typed_name name ≡ Some copied.made.name }
+        → target_of form.file ≡ OfName name → typed_name name ≡ Some copied.made.name }
     ensures others { (form : Copy) (ok : Bool) (old new : List Event) (copied : HasCopied form ok old new) (name : List ℕ) (how : How) (before : Vec ℕ)
         → typed_name name ≢ Some copied.made.name → Gets copied.image.bytes.items (OfName name) how (Ok before)
         → IsPrinted form.to copied.has.file name how before.items }
@@ -214,23 +208,6 @@ pub fn copy_comes_back()
     longer_tape();
     no_fault();
     copied_file();
-}
-
-/// What `put` of several files took, `get` gives where the image file is as it was left. That is so of each file put as frames whose name no
-/// later one has. Its bytes have zeros to the end of their last block. Another file is got as before, in each form.
-pub fn puts_come_back()
-    ensures frames { (form : PutMany) (ok : Bool) (old new : List Event) (stored : HasStoredAll form ok old new) (before following : List NewFile) (file : NewFile)
-        (name : List ℕ) → stored.files ≡ before ++ file ∷ following → IsNoneOf file.name following → typed_name name ≡ Some file.name → file.form ≡ put_as.Frames
-        → All (λ byte. byte < 256) file.bytes.items → IsPrinted form.image stored.has.file name get_as.Frames (whole_blocks file.bytes.items) }
-    ensures others { (form : PutMany) (ok : Bool) (old new : List Event) (stored : HasStoredAll form ok old new) (name : List ℕ) (number : ℕ) (how : How)
-        (before : Vec ℕ) → typed_name name ≡ Some number → IsNoneOf number stored.files → Gets stored.image.bytes.items (OfName name) how (Ok before)
-        → IsPrinted form.image stored.has.file name how before.items }
-{
-    image_round_trip();
-    longer_tape();
-    no_fault();
-    packed_bytes();
-    put_many_is_got();
 }
 
 /// What `copy` of several files copied, `get` gives of the image file as it was left. In each form these are the bytes that it gave of the file that

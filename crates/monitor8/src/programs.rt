@@ -1,14 +1,8 @@
-//! The program: what the words that it was started with ask for, over any host, and over the system that it runs in.
-ghost use Rattle.std.specs.Prelude.{◌≡◌, map};
-ghost use Rattle.byte_reader.specs.Readings.{reading};
-ghost use Rattle.monitor8.specs.Words.{RunsGiven, RunsProgram};
+//! The program over the system that it runs in.
 
-use crate::words::{texts_of, words_of};
-use byte_reader::{ByteReader, WatchedReader};
-use hosts::{Host, Stream};
-use image_files::{Rooms, end};
-use outcome::{Ending, no_memory_line};
-use std::alloc::Global;
+use byte_reader::WatchedReader;
+use hosts::Recorded;
+use program::run_program;
 use std::env::Env;
 use std::fs::{File, Files};
 use std::io::{Input, IsTerminal};
@@ -16,7 +10,6 @@ use std::process::ExitCode;
 use std::random::RandomSource;
 use std::time::Clock;
 use system::{Outputs, System};
-use task_commands::run_words;
 
 /// Does what the words of the command line ask for, over the system, as `run_program` does it. The answer is the exit status.
 pub fn program<
@@ -35,49 +28,6 @@ where
 {
     let mut reader = rt.reader();
     let mut input = WatchedReader::new(&mut reader);
-    let (_, status) = run_program(System::new(rt), rt.alloc(), &mut input);
+    let (_, status) = run_program(Recorded::new(System::new(rt)), rt.alloc(), &mut input);
     ExitCode::from(status)
-}
-
-/// Does what the words of the command line ask for, as `task_commands::run_words` has it. The exit status is 0, 1 after a fault, 141 where
-/// nobody reads standard output, and 2 for words that are refused (this project's profile). The memory for the last line is taken before
-/// anything else. The keys of a Teletype, or a script, are read from the input.
-pub fn run_program<H: Host, I: ByteReader>(host: H, alloc: Global, input: &mut I) -> (H, u8)
-    ensures { RunsProgram (reading I.remaining I.has_failed input.old input.new) (H.history host) (H.history result.0) result.1 }
-{
-    let mut host = host;
-    let Ok(rooms) = Rooms::new(alloc) else {
-        let _ = host.print(no_memory_line());
-        return (host, 1);
-    };
-    match words_of(&mut host, alloc) {
-        Ok(words) => run_given(host, alloc, rooms, &words, input),
-        Err(ending) => {
-            let status = end(&mut host, rooms, &None, false, Err(ending));
-            (host, status)
-        }
-    }
-}
-
-/// Does what the words of a command line ask for, and gives the exit status. Memory may be wanted for them first.
-fn run_given<H: Host, I: ByteReader>(
-    host: H,
-    alloc: Global,
-    rooms: Rooms,
-    words: &[String],
-    input: &mut I,
-) -> (H, u8)
-    ensures { RunsGiven (map (λ word. word.bytes.items) words.now) (reading I.remaining I.has_failed input.old input.new) (H.history host) (H.history result.0) result.1 }
-{
-    let mut host = host;
-    match texts_of(alloc, words) {
-        Ok(texts) => {
-            let is_typed = host.is_terminal(Stream::Input);
-            run_words(host, alloc, rooms, &texts, input, is_typed)
-        }
-        Err(error) => {
-            let status = end(&mut host, rooms, &None, false, Err(Ending::from(error)));
-            (host, status)
-        }
-    }
 }

@@ -2,8 +2,8 @@
 use Rattle.std.specs.declared.io.ErrorKind.{ErrorKind}
 use Rattle.std.specs.declared.io.ErrorKind.TheVariants.{OutOfMemory}
 use Rattle.bin_tape.specs.declared.faults.TapeFault.{TapeFault}
-use Rattle.script8.specs.Faults.{fault_of_tape}
-use Rattle.script8.specs.declared.faults.SessionFault.TheVariants.{Memory, Reader}
+use Rattle.refusals.specs.Faults.{fault_of_tape}
+use Rattle.refusals.specs.declared.faults.SessionFault.TheVariants.{Memory, Reader}
 use Rattle.archive_files.specs.declared.faults.ArchiveFault.{ArchiveFault}
 use Rattle.archive_files.specs.declared.faults.ArchiveFault.TheVariants as archive
 use Rattle.program_reports.specs.declared.programs.ProgramLine.TheVariants as line

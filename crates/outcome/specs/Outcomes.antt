@@ -2,9 +2,9 @@
 use Rattle.std.specs.Prelude.{ℕ, Bool, true, false, List, [], ◌++◌, Result, Ok, Err}
 use Rattle.hosts.specs.declared.faults.Unwritten.{Unwritten}
 use Rattle.hosts.specs.declared.faults.Unwritten.TheVariants as unwritten
-use Rattle.script8.specs.Replies.{fault_line}
-use Rattle.script8.specs.declared.faults.SessionFault.{SessionFault}
-use Rattle.script8.specs.declared.faults.SessionFault.TheVariants.{BadLine, NoJob, TooManyJobs, File, Asm, Tape, BadText, Reader, Writer, Memory, TooManyBreaks}
+use Rattle.refusals.specs.Faults.{fault_line}
+use Rattle.refusals.specs.declared.faults.SessionFault.{SessionFault}
+use Rattle.refusals.specs.declared.faults.SessionFault.TheVariants.{BadLine, NoJob, TooManyJobs, File, Asm, Tape, BadText, Reader, Writer, Memory, TooManyBreaks}
 use Rattle.program_reports.specs.Program.{program_line}
 use Rattle.program_reports.specs.declared.programs.ProgramLine.TheVariants.{HostWrite, HostBusy}
 use Rattle.outcome.specs.Contents.{content_name}

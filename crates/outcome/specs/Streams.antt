@@ -34,7 +34,6 @@ gives_data (task.ListLong image year) = false
 gives_data (task.ListSome form) = false
 gives_data (task.GetMany form) = false
 gives_data (task.Put form) = false
-gives_data (task.PutMany form) = false
 gives_data (task.Delete form) = false
 gives_data (task.Rename image file new) = false
 gives_data (task.Copy form) = false

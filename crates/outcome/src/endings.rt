@@ -4,7 +4,7 @@ ghost use Rattle.std.specs.IoError.{error_kind};
 ghost use Rattle.outcome.specs.Endings.{ending_of_archive, ending_of_input, ending_of_source, ending_of_tape};
 ghost use Rattle.outcome.specs.declared.endings.Ending.TheVariants as ending;
 ghost use Rattle.program_reports.specs.declared.programs.ProgramLine.TheVariants as line;
-ghost use Rattle.script8.specs.declared.faults.SessionFault.TheVariants.{Memory};
+ghost use Rattle.refusals.specs.declared.faults.SessionFault.TheVariants.{Memory};
 
 use crate::contents::Content;
 use archive_files::ArchiveFault;
@@ -13,7 +13,7 @@ use core_image::CoreFault;
 use disk_layouts::DiskFault;
 use hosts::Unwritten;
 use program_reports::{ProgramLine, SourceFault};
-use script8::SessionFault;
+use refusals::SessionFault;
 use std::alloc::AllocError;
 use std::io::{self, ErrorKind};
 use volume_image::ImageFault;

@@ -12,7 +12,7 @@ use crate::notes::FileNote;
 use crate::rooms::LineRoom;
 use hosts::Unwritten;
 use program_reports::ProgramLine;
-use script8::SessionFault;
+use refusals::SessionFault;
 
 /// The status of a refusal.
 const REFUSAL: u8 = 1;

@@ -1,11 +1,11 @@
 //! Room for the last line of a command, which is taken before its work is begun, so the line never wants memory.
 ghost use Rattle.std.specs.Prelude.{◌≡◌, ◌≤◌, [], vec_len, vec_capacity};
-ghost use Rattle.script8.specs.Replies.{fault_line};
-ghost use Rattle.script8.specs.declared.faults.SessionFault.TheVariants.{Memory};
+ghost use Rattle.refusals.specs.Faults.{fault_line};
+ghost use Rattle.refusals.specs.declared.faults.SessionFault.TheVariants.{Memory};
 ghost use Rattle.program_reports.specs.Program.{program_line};
 
 use program_reports::{ProgramLine, put_program};
-use script8::{SessionFault, put_reply};
+use refusals::{SessionFault, put_fault};
 use std::alloc::{AllocError, Global};
 
 /// The most bytes of a line.
@@ -50,7 +50,7 @@ impl LineRoom {
         ensures { result.items ≡ fault_line fault }
     {
         let mut bytes = self.bytes;
-        match put_reply(None, &Err(fault), &mut bytes) {
+        match put_fault(fault, &mut bytes) {
             Ok(()) => bytes,
             Err(_) => unreachable!(),
         }

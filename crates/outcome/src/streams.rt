@@ -32,7 +32,6 @@ pub fn gives_data(task: &Task) -> bool
         | Task::ListSome(_)
         | Task::GetMany(_)
         | Task::Put(_)
-        | Task::PutMany(_)
         | Task::Delete(_)
         | Task::Rename(..)
         | Task::Copy(_)

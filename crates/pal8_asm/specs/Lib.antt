@@ -8,3 +8,4 @@ pub mod Reaching
 pub mod Assembling
 pub mod Steps
 pub mod MarkSteps
+pub mod Pushing

@@ -10,6 +10,7 @@ mod faults;
 mod late;
 pub mod laws;
 mod marks;
+mod pushing;
 mod texts;
 mod words;
 
@@ -18,3 +19,4 @@ pub use assembling::{Parts, assemble, assemble_parts};
 pub use entries::{Entries, Head, Late};
 pub use faults::{AsmFault, Fault, Place};
 pub use marks::{Mark, has_indirect_bit};
+pub use pushing::push_byte;

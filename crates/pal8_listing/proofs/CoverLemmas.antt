@@ -10,7 +10,7 @@ use Rattle.pal8_lex.specs.declared.rules.End.TheVariants as end
 use Rattle.pal8_lex.specs.Rules.{end_of}
 use Rattle.source_places.specs.Places.{next_line}
 use Rattle.pal8_asm.specs.Sources.{PassResult}
-use Rattle.pal8_join.specs.Joins.{before_tokens, bytes_in, closing_bytes, counts_from, first_pause, has_none, is_line_open, join_from, part, part_by, pauses, remainder_after, texts_of, tokens_after, whole_lines}
+use Rattle.pal8_tape.specs.Joins.{before_tokens, bytes_in, closing_bytes, counts_from, first_pause, has_none, is_line_open, join_from, part, part_by, pauses, remainder_after, texts_of, tokens_after, whole_lines}
 use Rattle.pal8_listing.specs.Rows.{Line, all_lines, numbered_lines}
 use Rattle.pal8_listing.specs.declared.words.ListedWord.{ListedWord}
 use Rattle.pal8_listing.proofs.LineLemmas.{AtMost, Rises, most_more}

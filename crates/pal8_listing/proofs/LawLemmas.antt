@@ -8,7 +8,7 @@ use Rattle.pal8_asm.specs.Marks.{marks_of}
 use Rattle.pal8_asm.specs.Sources.{Remainder, first_left, remainder_of_text}
 use Rattle.pal8_asm.specs.Tapes.{TapeWords}
 use Rattle.pal8_places.specs.declared.options.Options.{Options}
-use Rattle.pal8_join.specs.Joins.{bytes_in, counts_of, joined_bytes}
+use Rattle.pal8_tape.specs.Joins.{bytes_in, counts_of, joined_bytes}
 use Rattle.pal8_tape.specs.Answers.{result_of}
 use Rattle.pal8_listing.specs.Laws.{WordsAreListed, listed_pairs, words_of_rows}
 use Rattle.pal8_listing.specs.Listings.{rows_in}

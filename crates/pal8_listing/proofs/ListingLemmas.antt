@@ -5,7 +5,7 @@ use Rattle.pal_lex.specs.Text.{text_of}
 use Rattle.pal8_asm.specs.Marks.{HasParts, marks_of}
 use Rattle.pal8_asm.specs.declared.assembling.Parts.{Parts}
 use Rattle.pal8_places.specs.declared.options.Options.{Options}
-use Rattle.pal8_join.specs.Joins.{bytes_in, counts_of, joined_bytes}
+use Rattle.pal8_tape.specs.Joins.{bytes_in, counts_of, joined_bytes}
 use Rattle.pal8_listing.specs.Listings.{IsListed, rows_in, symbols_text}
 use Rattle.pal8_listing.specs.Rows.{all_lines, listed_words, rows_of, rows_text}
 use Rattle.pal8_listing.specs.Texts.{pool_text}

@@ -4,3 +4,9 @@ pub mod Uses
 pub mod Steps
 pub mod Listings
 pub mod Laws
+pub mod Closer
+pub mod Notes
+pub mod NotesSteps
+pub mod NotesTexts
+pub mod Items
+pub mod ItemSteps

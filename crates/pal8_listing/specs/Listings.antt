@@ -10,7 +10,7 @@ use Rattle.pal8_asm.specs.Marks.{last_values, marks_of}
 use Rattle.pal8_asm.specs.Sources.{Remainder, remainder_of_text}
 use Rattle.pal8_asm.specs.Tapes.{TapeWords}
 use Rattle.pal8_places.specs.declared.options.Options.{Options}
-use Rattle.pal8_join.specs.Joins.{bytes_in, counts_of, joined_bytes}
+use Rattle.pal8_tape.specs.Joins.{bytes_in, counts_of, joined_bytes}
 use Rattle.pal8_tape.specs.Answers.{result_of}
 use Rattle.pal8_listing.specs.Texts.{names_text, pool_text}
 use Rattle.pal8_listing.specs.declared.words.ListedWord.{ListedWord}

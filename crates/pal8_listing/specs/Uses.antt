@@ -4,9 +4,10 @@ use Rattle.pal_lex.specs.Text.{limit}
 use Rattle.pal8_lex.specs.Kinds.{is_comma}
 use Rattle.pal8_lex.specs.declared.tokens.Token.{Token}
 use Rattle.pal8_grammar.specs.Bodies.{free_name, is_equals, names_file}
-use Rattle.pal8_asm.specs.Sources.{Source, PassResult, first_left, statements}
+use Rattle.pal8_asm.specs.Sources.{PassResult, Statement, first_left, statements}
 use Rattle.pal8_places.specs.declared.options.Options.{Options}
-use Rattle.pal8_join.specs.Joins.{is_read, pass_on}
+use Rattle.pal8_tape.specs.Joins.{is_read}
+use Rattle.pal8_listing.specs.Items.{items_after}
 use Rattle.source_listing.specs.Symbols.{symbol_text}
 use Rattle.pal8_listing.specs.Rows.{join_after, lines_read, number_after}
 use Rattle.pal8_listing.specs.declared.mentions.Mention.{Mention}
@@ -27,13 +28,13 @@ abbrev pub names_in : ℕ → List Token → List Mention
 names_in line [] = []
 names_in line (t ∷ others) = if names_file (t ∷ others) then [] else mention_by (free_name t.kind) line (is_defining others) ++ names_in line others
 
--- the names in the statements of a source that are read, in its order
-abbrev pub names_after : PassResult → Source → List Mention
-names_after first [] = []
-names_after first (s ∷ older) = names_after first older ++ (if is_read (pass_on first older) then names_in s.line s.tokens else [])
+-- the names in a statement, if it is read
+abbrev pub names_read : PassResult → Statement → List Mention
+names_read left s = if is_read left then names_in s.line s.tokens else []
 
+-- the names in the statements of a text that are read by these options, in its order
 abbrev pub mentions : Options → List ℕ → List Mention
-mentions options text = names_after (Ok (first_left options)) (statements text)
+mentions options text = items_after names_read (Ok (first_left options)) (statements text)
 
 -- the uses of a name, each with the line in which its statement begins
 abbrev pub is_of : ℕ → Mention → Bool

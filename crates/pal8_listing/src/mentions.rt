@@ -6,15 +6,16 @@ ghost use Rattle.pal8_lex.specs.Reading.{HasRead};
 ghost use Rattle.pal8_lex.specs.Statements.{is_string};
 ghost use Rattle.pal8_asm.specs.Sources.{PassResult, with_next};
 ghost use Rattle.pal8_grammar.specs.Bodies.{free_name, is_equals, names_file};
-ghost use Rattle.pal8_join.specs.Joins.{is_read, pass_on};
-ghost use Rattle.pal8_join.specs.Passing.{Follows};
-ghost use Rattle.pal8_listing.specs.Uses.{is_defining, mention_by, mentions, names_in};
-ghost use Rattle.pal8_listing.specs.Steps.{MeetsByte, NamesStatement};
+ghost use Rattle.pal8_tape.specs.Joins.{is_read, pass_on};
+ghost use Rattle.pal8_tape.specs.Passing.{Follows};
+ghost use Rattle.pal8_listing.specs.Uses.{is_defining, mention_by, mentions, names_in, names_read};
+ghost use Rattle.pal8_listing.specs.ItemSteps.{HasLooked, LooksAtOne};
 
+use pal8_asm::push_byte;
 use pal8_grammar::free_name;
-use pal8_join::{JoinFault, Pass};
 use pal8_lex::{End, Kind, Lexer, Name, Token};
 use pal8_places::Options;
+use pal8_tape::{JoinFault, Pass};
 use std::alloc::{AllocError, Global};
 
 /// The numbers of the names FILENAME and DEVICE, which their sixbit codes make.
@@ -127,7 +128,7 @@ fn meet_statement(
     lexer: &Lexer,
     end: End,
 ) -> Result<(), JoinFault>
-    ensures { (at : ℕ) (left : PassResult) → Follows pass.old left → OnOk result (NamesStatement left
+    ensures { (at : ℕ) (left : PassResult) → Follows pass.old left → OnOk result (LooksAtOne names_read left
         (record { line = lexer.now.line; at = at; tokens = lexer.now.draft.tokens; string = lexer.now.draft.string; is_cut = is_string lexer.now.draft.state; end = end })
         found.old.items found.new.items pass.new) }
 {
@@ -143,13 +144,10 @@ fn meet_byte(
     lexer: &mut Lexer,
     byte: u8,
 ) -> Result<(), JoinFault>
-    ensures { (first : PassResult) (here : List ℕ) → MeetsByte first here found.old.items lexer.old pass.old
-        → OnOk result (MeetsByte first (byte ∷ here) found.new.items lexer.new pass.new) }
+    ensures { (first : PassResult) (here : List ℕ) → HasLooked names_read first here found.old.items lexer.old pass.old
+        → OnOk result (HasLooked names_read first (byte ∷ here) found.new.items lexer.new pass.new) }
 {
-    if !lexer.push(byte)? {
-        return Ok(());
-    }
-    match lexer.end() {
+    match push_byte(lexer, byte)? {
         Some(end) => meet_statement(found, pass, lexer, end),
         None => Ok(()),
     }

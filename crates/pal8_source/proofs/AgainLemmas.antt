@@ -13,8 +13,8 @@ use Rattle.bin_tape.specs.Pairs as pairs
 use Rattle.bin_tape.specs.Pairs.{last_word}
 use Rattle.pal8_pools.specs.Cells.{ArePairs, IsIn, RiseFrom}
 use Rattle.pal_lex.specs.Text.{text_of}
-use Rattle.pal8_join.specs.Joins.{bytes_in}
-use Rattle.pal8_join.specs.Laws.{OneIsItself}
+use Rattle.pal8_tape.specs.Joins.{bytes_in}
+use Rattle.pal8_tape.specs.JoinLaws.{OneIsItself}
 use Rattle.pal8_tape.specs.Answers as pal8_tape
 use Rattle.pal8_asm.specs.Assembled.{result_of_text}
 use Rattle.pal8_asm.specs.Assembling.{IsAssembled}

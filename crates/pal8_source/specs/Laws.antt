@@ -5,7 +5,7 @@ use Rattle.word12.specs.declared.sizes.TheConstants.{CORE}
 use Rattle.bin_tape.specs.Items.{Item}
 use Rattle.bin_tape.specs.Tape.{IsTape}
 use Rattle.tape_source.specs.Sources.{SaysTheSame}
-use Rattle.pal8_join.specs.Joins.{bytes_in}
+use Rattle.pal8_tape.specs.Joins.{bytes_in}
 use Rattle.pal8_tape.specs.Answers as pal8_tape
 use Rattle.pal8_tape.specs.declared.faults.Fault.{Fault}
 use Rattle.pal8_tape.specs.declared.faults.SourceFault.TheVariants.{At}

@@ -8,7 +8,7 @@ use Rattle.pal_lex.specs.Runs.{name_number}
 use Rattle.flow8.specs.Flow.{Reaches, word_in}
 use Rattle.source_notes.specs.Notes.{Notes, is_flagged}
 use Rattle.source_names.specs.Names.{AreNames, read_of}
-use Rattle.source_names.specs.declared.faults.LineRefusal.{LineRefusal}
+use Rattle.pal_faults.specs.declared.names.LineRefusal.{LineRefusal}
 use Rattle.source_names.specs.declared.faults.NamesFault.TheVariants.{At}
 use Rattle.tape_source.specs.Looks.{is_tagged, name_or_tag}
 use Rattle.tape_source.specs.Sources.{AllGiven, LacksStart, words_of_tape}

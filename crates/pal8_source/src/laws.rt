@@ -3,7 +3,7 @@
 ghost use Rattle.pal8_source.specs.Laws.{HasNoFault, PlainComesBack, TapeComesBack};
 
 use bin_tape::laws::{one_reading, written_tape};
-use pal8_join::laws::one_is_itself;
+use pal8_tape::join_laws::one_is_itself;
 
 /// The source that is answered for a tape comes back. As the only source of `assemble --pal8` it has no fault, and the tape that is made of it, whatever
 /// follows it, gives each cell what the first one gave it. This holds of each tape that gives a cell a word, whatever starts and names are given.

@@ -4,3 +4,9 @@ pub mod WordLemmas
 pub mod MarkLemmas
 pub mod MendLemmas
 pub mod FurtherLemmas
+pub mod JoinTextLemmas
+pub mod ByteLemmas
+pub mod PauseLemmas
+pub mod PassLemmas
+pub mod JoinLemmas
+pub mod PartLemmas

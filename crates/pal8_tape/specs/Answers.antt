@@ -9,7 +9,7 @@ use Rattle.pal8_asm.specs.Tapes.{TapeWords}
 use Rattle.pal8_asm.specs.declared.faults.Fault as asm
 use Rattle.pal8_places.specs.declared.options.Options.{Options}
 use Rattle.source_places.specs.Places.{place_in}
-use Rattle.pal8_join.specs.Joins.{bytes_in, counts_of, joined_bytes}
+use Rattle.pal8_tape.specs.Joins.{bytes_in, counts_of, joined_bytes}
 use Rattle.pal8_tape.specs.Marks.{fault_mark}
 use Rattle.pal8_tape.specs.Places.{place_by}
 use Rattle.pal8_tape.specs.declared.faults.Fault.{Fault}

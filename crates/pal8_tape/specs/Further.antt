@@ -10,7 +10,7 @@ use Rattle.pal8_places.specs.declared.faults.Code.{Code}
 use Rattle.pal8_places.specs.declared.faults.Code.TheVariants.{IC, SY, NU, UA, DT, RD, IR, II, FD, PG, PF, DZ, PE, ZE, PageClash, ZeroClash, RL, PH, NE, NW}
 use Rattle.source_places.specs.Places.{place_in}
 use Rattle.pal8_lex.specs.Text.{live}
-use Rattle.pal8_join.specs.Joins.{bytes_in, counts_of, is_line_open, joined_bytes}
+use Rattle.pal8_tape.specs.Joins.{bytes_in, counts_of, is_line_open, joined_bytes}
 use Rattle.pal8_tape.specs.Mending.{harmless}
 use Rattle.pal8_tape.specs.Answers.{result_of, with_place}
 use Rattle.pal8_tape.specs.declared.faults.Fault.{Fault}

@@ -7,3 +7,7 @@ pub mod MendSteps
 pub mod Further
 pub mod Laws
 pub mod Signs
+pub mod Joins
+pub mod JoinLaws
+pub mod Passing
+pub mod Steps

@@ -1,7 +1,7 @@
 ghost use Rattle.std.specs.Prelude.{◌≡◌};
 ghost use Rattle.pal8_tape.specs.declared.faults.SourceFault.TheVariants.{Memory};
 
-use pal8_join::JoinFault;
+use crate::JoinFault;
 use pal8_places::Code;
 use source_places::Place;
 use std::alloc::AllocError;

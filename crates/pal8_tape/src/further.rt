@@ -2,7 +2,7 @@
 ghost use Rattle.std.specs.Prelude.{◌≡◌, ◌++◌, ◌∷◌, [], Err, IfOk, IfErr, OnOk, map};
 ghost use Rattle.pal_lex.specs.Text.{text_of};
 ghost use Rattle.pal8_asm.specs.Assembling.{Assembles};
-ghost use Rattle.pal8_join.specs.Joins.{counts_of, joined_bytes};
+ghost use Rattle.pal8_tape.specs.Joins.{counts_of, joined_bytes};
 ghost use Rattle.pal8_tape.specs.Further as spec;
 ghost use Rattle.pal8_tape.specs.Further.{further_faults};
 ghost use Rattle.pal8_tape.specs.MendSteps.{Mends};
@@ -11,9 +11,8 @@ ghost use Rattle.pal8_tape.specs.declared.faults.SourceFault.TheVariants.{Memory
 use crate::places::place_in;
 use crate::tapes::at_token;
 use crate::texts::{ended_texts, join_texts, mend};
-use crate::{Fault, SourceFault};
+use crate::{Fault, Join, SourceFault};
 use pal8_asm::{AsmFault, Assembler, Place, assemble};
-use pal8_join::Join;
 use pal8_places::{Code, Options};
 use std::alloc::{AllocError, Global};
 

@@ -1,13 +1,12 @@
 //! The texts of sources, in which statements are made harmless.
 ghost use Rattle.std.specs.Prelude.{◌≡◌, ◌++◌, ◌∷◌, [], IfOk, IfErr, OnOk, map};
-ghost use Rattle.pal8_join.specs.Joins.{bytes_in, counts_of, joined_bytes};
+ghost use Rattle.pal8_tape.specs.Joins.{bytes_in, counts_of, joined_bytes};
 ghost use Rattle.pal8_tape.specs.Further.{ended_text, ended_texts, harmless_at};
 ghost use Rattle.pal8_tape.specs.MendSteps.{Mends, text_if_last};
 ghost use Rattle.pal8_tape.specs.declared.faults.SourceFault.TheVariants.{Memory};
 
-use crate::SourceFault;
 use crate::mending::harmless;
-use pal8_join::{Join, is_line_open, join_all};
+use crate::{Join, SourceFault, is_line_open, join_all};
 use pal8_places::Options;
 use std::alloc::{AllocError, Global};
 

@@ -8,7 +8,7 @@ use Rattle.pal_sym.specs.Values.{symbol_value, if_none, set_again, IsSetAgain}
 use Rattle.pal_lex.specs.declared.phrases.Part.{Part}
 use Rattle.pal_lex.specs.declared.phrases.Body.{Body}
 use Rattle.pal_lex.specs.declared.phrases.Body.TheVariants.{Nothing, Origin, Define, Decimal, Octal, Pause, Field, Reference, Word}
-use Rattle.pal_asm.specs.declared.faults.Code.TheVariants.{DT, RD}
+use Rattle.pal_faults.specs.declared.assembling.Code.TheVariants.{DT, RD}
 use Rattle.pal_asm.specs.Expressions.{Meanings, value_of}
 use Rattle.pal_asm.specs.Places.{with_tags, with_body, is_among}
 use Rattle.pal_asm.specs.Faults.{past, defined_otherwise, tags_fault, body_fault}

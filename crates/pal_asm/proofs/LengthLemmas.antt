@@ -9,8 +9,8 @@ use Rattle.pal_asm.specs.Places.{Source, is_word, values, place_at}
 use Rattle.pal_asm.specs.Words.{offset_of, offset_to, with_offset, body_word, cell_at, with_pair, word_values, pairs_by}
 use Rattle.pal_asm.specs.Faults.{at_line, address_fault, no_offset, out_of_reach, word_fault, words_fault, has_word, last_line, no_word}
 use Rattle.pal_asm.specs.Laws.{HasWords}
-use Rattle.pal_asm.specs.declared.faults.AsmFault.TheVariants.{At}
-use Rattle.pal_asm.specs.declared.faults.Code.TheVariants.{NW}
+use Rattle.pal_faults.specs.declared.assembling.AsmFault.TheVariants.{At}
+use Rattle.pal_faults.specs.declared.assembling.Code.TheVariants.{NW}
 use Rattle.pal_asm.proofs.WholeLemmas.{first_none, second_none, some_none, valued}
 
 -- a value that is there

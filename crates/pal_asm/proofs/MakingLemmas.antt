@@ -7,19 +7,20 @@ use Rattle.pal_lex.specs.Laws.{ByteGoesOn, PauseJoins, PauseIsBad}
 use Rattle.pal_lex.specs.Reading.{HasRead, HasPaused, Answers, HandsOut, TellsFault as LexTells, is_pause_body, with_tokens, tokens_after}
 use Rattle.pal_lex.specs.Progress as lex
 use Rattle.pal_lex.specs.Progress.{setting}
-use Rattle.pal_lex.specs.declared.faults.LexFault.{LexFault}
-use Rattle.pal_lex.specs.declared.faults.LexFault.TheVariants as fault
+use Rattle.pal_faults.specs.declared.lexical.LexFault.{LexFault}
+use Rattle.pal_faults.specs.declared.lexical.LexFault.TheVariants as fault
 use Rattle.pal_lex.specs.declared.phrases.Statement.{Statement}
 use Rattle.pal_lex.specs.declared.pieces.Token.{Token}
 use Rattle.pal_asm.specs.Expressions.{Meanings}
 use Rattle.pal_asm.specs.Places.{Source, values, place_at}
 use Rattle.pal_asm.specs.Words.{pairs_by, word_values}
-use Rattle.pal_asm.specs.Faults.{first_of, at_line, lexical, first_order, word_fault, words_fault}
+use Rattle.pal_asm.specs.Faults.{first_of, at_line, first_order, word_fault, words_fault}
+use Rattle.pal_faults.specs.Faults.{lexical}
 use Rattle.pal_asm.specs.Laws.{NoFaultBefore, NoLexicalFault}
 use Rattle.pal_asm.specs.Passes.{IsSecond, AnswersSecond, with_handed}
 use Rattle.pal_asm.specs.Progress as asm
-use Rattle.pal_asm.specs.declared.faults.AsmFault.{AsmFault}
-use Rattle.pal_asm.specs.declared.faults.AsmFault.TheVariants.{At, Memory}
+use Rattle.pal_faults.specs.declared.assembling.AsmFault.{AsmFault}
+use Rattle.pal_faults.specs.declared.assembling.AsmFault.TheVariants.{At, Memory}
 use Rattle.pal_asm.specs.declared.passing.Pass.{Pass}
 use Rattle.pal_asm.specs.Passing.{Counts, IsMade, TellsJoinFault, IsWithin, HasMade, MakesTo}
 use Rattle.pal_asm.specs.Texts.{GoesOnAfter}

@@ -5,7 +5,7 @@ use Rattle.std.proofs.lemmas.Bool.{eqb-true}
 use Rattle.std.proofs.lemmas.Bool.Decides.{nat_tests}
 use Rattle.pal_sym.specs.SymbolTable.{SymbolTable}
 use Rattle.pal_sym.specs.Values.{symbol_value, is_fixed as fixed_in, DefinesTag}
-use Rattle.pal_asm.specs.declared.faults.Code.TheVariants.{DT}
+use Rattle.pal_faults.specs.declared.assembling.Code.TheVariants.{DT}
 use Rattle.pal_asm.specs.Expressions.{Meanings}
 use Rattle.pal_asm.specs.Places.{with_tags, is_among}
 use Rattle.pal_asm.specs.Faults.{first_of, past, defined_otherwise, tags_fault}

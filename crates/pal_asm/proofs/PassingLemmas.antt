@@ -7,18 +7,19 @@ use Rattle.pal_lex.specs.Laws.{has_next, ByteGoesOn, JoinGoesOn, PauseJoins}
 use Rattle.pal_lex.specs.Reading.{HasRead, HasPaused, Answers, HandsOut, Pauses, TellsFault as LexTells, Ends, BeginsNext, EndsSource as LexEnds, is_pause_body, with_tokens, tokens_after}
 use Rattle.pal_lex.specs.Progress as lex
 use Rattle.pal_lex.specs.Progress.{Setting, setting}
-use Rattle.pal_lex.specs.declared.faults.LexFault.{LexFault}
-use Rattle.pal_lex.specs.declared.faults.LexFault.TheVariants as fault
+use Rattle.pal_faults.specs.declared.lexical.LexFault.{LexFault}
+use Rattle.pal_faults.specs.declared.lexical.LexFault.TheVariants as fault
 use Rattle.pal_lex.specs.declared.phrases.Statement.{Statement}
 use Rattle.pal_asm.specs.Places.{Source}
-use Rattle.pal_asm.specs.Faults.{first_of, at_line, lexical, statement_fault, first_order}
+use Rattle.pal_asm.specs.Faults.{first_of, at_line, statement_fault, first_order}
+use Rattle.pal_faults.specs.Faults.{lexical}
 use Rattle.pal_asm.specs.Laws.{LexicalFaultIsTold, StatementsStay}
 use Rattle.pal_asm.specs.Passes.{IsFirst, IsSecond, AnswersFirst, BeginsSecond}
 use Rattle.pal_asm.specs.Progress as asm
 use Rattle.pal_lex.specs.declared.pieces.Token.{Token}
-use Rattle.pal_asm.specs.declared.faults.Code.TheVariants.{NE}
-use Rattle.pal_asm.specs.declared.faults.AsmFault.{AsmFault}
-use Rattle.pal_asm.specs.declared.faults.AsmFault.TheVariants.{At, Memory}
+use Rattle.pal_faults.specs.declared.assembling.Code.TheVariants.{NE}
+use Rattle.pal_faults.specs.declared.assembling.AsmFault.{AsmFault}
+use Rattle.pal_faults.specs.declared.assembling.AsmFault.TheVariants.{At, Memory}
 use Rattle.pal_asm.specs.declared.passing.Pass.{Pass}
 use Rattle.pal_asm.specs.Passing.{Counts, Pause, Stands, StandsAfter, TellsJoinFault, HasPassed, Settles, SettlesIn, PassesTo, EndsSource, BeginsSecondPass}
 use Rattle.pal_asm.specs.TextSteps.{is_pause_answer, PassesByte}

@@ -5,10 +5,10 @@ use Rattle.pal_sym.specs.Permanent.{permanent}
 use Rattle.pal_sym.specs.SymbolTable.{SymbolTable}
 use Rattle.pal_sym.specs.Values.{symbol_value, if_none}
 use Rattle.pal_lex.specs.declared.phrases.Statement.{Statement}
-use Rattle.pal_asm.specs.declared.faults.Code.{Code}
-use Rattle.pal_asm.specs.declared.faults.Code.TheVariants.{NW}
-use Rattle.pal_asm.specs.declared.faults.AsmFault.{AsmFault}
-use Rattle.pal_asm.specs.declared.faults.AsmFault.TheVariants.{At}
+use Rattle.pal_faults.specs.declared.assembling.Code.{Code}
+use Rattle.pal_faults.specs.declared.assembling.Code.TheVariants.{NW}
+use Rattle.pal_faults.specs.declared.assembling.AsmFault.{AsmFault}
+use Rattle.pal_faults.specs.declared.assembling.AsmFault.TheVariants.{At}
 use Rattle.pal_asm.specs.declared.spots.Spot.{Spot}
 use Rattle.pal_asm.specs.Places.{Source, is_among, is_fixed_at, values, place_at, values_at, field_by, field_at}
 use Rattle.pal_asm.specs.Words.{word_values, body_word, with_pair, pairs_by}

@@ -8,11 +8,11 @@ use Rattle.pal_lex.specs.Joins.{join_of}
 use Rattle.pal_lex.specs.Laws.{has_next, JoinGoesOn, EndsJoin}
 use Rattle.pal_lex.specs.Reading.{HasRead, with_tokens}
 use Rattle.pal_lex.specs.Progress as lex
-use Rattle.pal_lex.specs.declared.faults.LexFault.{LexFault}
+use Rattle.pal_faults.specs.declared.lexical.LexFault.{LexFault}
 use Rattle.pal_lex.specs.declared.phrases.Statement.{Statement}
-use Rattle.pal_asm.specs.declared.faults.AsmFault.{AsmFault}
-use Rattle.pal_asm.specs.declared.faults.AsmFault.TheVariants.{At, Memory}
-use Rattle.pal_asm.specs.declared.faults.Code.TheVariants.{NE}
+use Rattle.pal_faults.specs.declared.assembling.AsmFault.{AsmFault}
+use Rattle.pal_faults.specs.declared.assembling.AsmFault.TheVariants.{At, Memory}
+use Rattle.pal_faults.specs.declared.assembling.Code.TheVariants.{NE}
 use Rattle.pal_asm.specs.declared.passing.Pass.{Pass}
 use Rattle.pal_asm.specs.Places.{Source, values}
 use Rattle.pal_asm.specs.Faults.{first_of, first_order, no_end, words_fault}

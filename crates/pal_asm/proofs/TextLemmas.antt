@@ -2,17 +2,18 @@
 use Rattle.std.proofs.Common.{◌≡◌, ℕ, nat_eq, Bool, true, false, if◌then◌else◌, Option, Some, None, Result, Ok, Err, List, [], ◌∷◌, ◌++◌, refl, ap, sym, ◌∙◌, ◌⊎◌, inl, inr, append_assoc, true≢false}
 use Rattle.pal_lex.specs.Text.{ends_statement, stretch, line_after}
 use Rattle.pal_lex.specs.Statements.{statements, first_fault, first_of as lex_first_of, with_stretch, judge_statement, radix_after}
-use Rattle.pal_lex.specs.declared.faults.LexFault.{LexFault}
+use Rattle.pal_faults.specs.declared.lexical.LexFault.{LexFault}
 use Rattle.pal_lex.specs.declared.phrases.Body.{Body}
 use Rattle.pal_lex.specs.declared.phrases.Body.TheVariants.{Nothing, Origin, Define, Decimal, Octal, Pause, Field, Reference, Word}
 use Rattle.pal_lex.specs.declared.phrases.Statement.{Statement}
-use Rattle.pal_asm.specs.declared.faults.AsmFault.{AsmFault}
-use Rattle.pal_asm.specs.declared.faults.AsmFault.TheVariants.{At, Memory}
-use Rattle.pal_asm.specs.declared.faults.Code.TheVariants.{NW}
+use Rattle.pal_faults.specs.declared.assembling.AsmFault.{AsmFault}
+use Rattle.pal_faults.specs.declared.assembling.AsmFault.TheVariants.{At, Memory}
+use Rattle.pal_faults.specs.declared.assembling.Code.TheVariants.{NW}
 use Rattle.pal_asm.specs.Expressions.{Meanings}
 use Rattle.pal_asm.specs.Places.{Source, is_word, values, place_at}
 use Rattle.pal_asm.specs.Words.{word_values}
-use Rattle.pal_asm.specs.Faults.{first_of, at_line, lexical, statement_fault, first_order, no_end, word_fault, words_fault, has_word, last_line, no_word}
+use Rattle.pal_asm.specs.Faults.{first_of, at_line, statement_fault, first_order, no_end, word_fault, words_fault, has_word, last_line, no_word}
+use Rattle.pal_faults.specs.Faults.{lexical}
 use Rattle.pal_asm.specs.Laws.{FixedNamesKeepTheirValues, FirstFaultStays, WordFaultStays, NoWordIsTold, LexicalFaultIsTold, NoLexicalFault, StatementsStay, NoFaultBefore, FirstStatementsTell, FirstWordsTell, NoEndIsTold}
 use Rattle.pal_asm.specs.Progress.{Progress}
 use Rattle.pal_asm.specs.Passes.{IsSecond}

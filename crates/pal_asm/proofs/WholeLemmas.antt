@@ -10,8 +10,8 @@ use Rattle.pal_lex.specs.declared.phrases.Part.{Part}
 use Rattle.pal_lex.specs.declared.phrases.Body.{Body}
 use Rattle.pal_lex.specs.declared.phrases.Body.TheVariants.{Nothing, Origin, Define, Decimal, Octal, Pause, Field, Reference, Word}
 use Rattle.pal_lex.specs.declared.phrases.Statement.{Statement}
-use Rattle.pal_asm.specs.declared.faults.Code.{Code}
-use Rattle.pal_asm.specs.declared.faults.Code.TheVariants.{DT, RD, PF}
+use Rattle.pal_faults.specs.declared.assembling.Code.{Code}
+use Rattle.pal_faults.specs.declared.assembling.Code.TheVariants.{DT, RD, PF}
 use Rattle.pal_asm.specs.declared.spots.Spot.{Spot}
 use Rattle.pal_asm.specs.Expressions.{Meanings, term_value, join_values, joined_values, value_after, value_of}
 use Rattle.pal_asm.specs.Places.{Source, with_tags, with_body, is_among, is_fixed, is_fixed_at, values, place_at, values_at, field_by}

@@ -2,18 +2,17 @@
 use Rattle.std.specs.Prelude.{ℕ, nat_eq, nat_lt, Bool, true, false, if◌then◌else◌, Option, Some, None, Ok, Err, List, [], ◌∷◌}
 use Rattle.pal_lex.specs.Text.{is_over, line_after}
 use Rattle.pal_lex.specs.Statements.{statements}
-use Rattle.pal_lex.specs.declared.faults.LexFault.{LexFault}
-use Rattle.pal_lex.specs.declared.faults.LexFault.TheVariants as lex
+use Rattle.pal_faults.specs.Faults.{lexical}
 use Rattle.pal_lex.specs.declared.pieces.Term.{Term}
 use Rattle.pal_lex.specs.declared.pieces.Term.TheVariants.{Name, Number, Here}
 use Rattle.pal_lex.specs.declared.phrases.Part.{Part}
 use Rattle.pal_lex.specs.declared.phrases.Body.{Body}
 use Rattle.pal_lex.specs.declared.phrases.Body.TheVariants.{Nothing, Origin, Define, Decimal, Octal, Pause, Field, Reference, Word}
 use Rattle.pal_lex.specs.declared.phrases.Statement.{Statement}
-use Rattle.pal_asm.specs.declared.faults.Code.{Code}
-use Rattle.pal_asm.specs.declared.faults.Code.TheVariants.{IC, SY, NU, UA, DT, RD, IR, FD, PF, NE, NW}
-use Rattle.pal_asm.specs.declared.faults.AsmFault.{AsmFault}
-use Rattle.pal_asm.specs.declared.faults.AsmFault.TheVariants.{At, Memory}
+use Rattle.pal_faults.specs.declared.assembling.Code.{Code}
+use Rattle.pal_faults.specs.declared.assembling.Code.TheVariants.{UA, DT, RD, IR, FD, PF, NE, NW}
+use Rattle.pal_faults.specs.declared.assembling.AsmFault.{AsmFault}
+use Rattle.pal_faults.specs.declared.assembling.AsmFault.TheVariants.{At}
 use Rattle.pal_asm.specs.Expressions.{Meanings, value_of, address_value}
 use Rattle.pal_asm.specs.Places.{Source, is_word, place_at, values, values_at, is_fixed_at}
 use Rattle.pal_asm.specs.Words.{offset_of, word_values}
@@ -85,14 +84,6 @@ statement_fault s older =
 abbrev pub at_line : ℕ → Option Code → Option AsmFault
 at_line line None = None
 at_line line (Some code) = Some (At code line)
-
--- a fault of the lexer among those of the assembler
-abbrev pub lexical : LexFault → AsmFault
-lexical (lex.IC line) = At IC line
-lexical (lex.SY line) = At SY line
-lexical (lex.NU line) = At NU line
-lexical (lex.NE line) = At NE line
-lexical lex.Memory = Memory
 
 -- The first fault of the first order: in the order of the source, what the lexer refuses, and what a statement is refused
 -- by the statements before it.

@@ -1,11 +1,12 @@
 -- What holds of the faults and names of each source.
 use Rattle.std.specs.Prelude.{◌≡◌, ℕ, ◌<◌, true, Some, None, length, List, ◌∷◌, ◌++◌}
 use Rattle.pal_lex.specs.Statements.{statements, first_fault}
-use Rattle.pal_lex.specs.declared.faults.LexFault.{LexFault}
-use Rattle.pal_asm.specs.declared.faults.AsmFault.{AsmFault}
+use Rattle.pal_faults.specs.declared.lexical.LexFault.{LexFault}
+use Rattle.pal_faults.specs.declared.assembling.AsmFault.{AsmFault}
 use Rattle.pal_asm.specs.Places.{Source, values, is_fixed}
 use Rattle.pal_asm.specs.Words.{pairs_of}
-use Rattle.pal_asm.specs.Faults.{lexical, first_order, no_end, words_fault, no_word, fault_of}
+use Rattle.pal_asm.specs.Faults.{first_order, no_end, words_fault, no_word, fault_of}
+use Rattle.pal_faults.specs.Faults.{lexical}
 
 -- In a source with no fault of the first order a permanent name or a tag keeps its value. What it stands for after some
 -- statements it stands for after all of them.

@@ -7,8 +7,8 @@ use Rattle.pal_sym.specs.Values.{symbol_value, is_fixed as fixed_in, set_again}
 use Rattle.pal_lex.specs.declared.phrases.Body.{Body}
 use Rattle.pal_lex.specs.declared.phrases.Body.TheVariants.{Nothing, Origin, Define, Decimal, Octal, Pause, Field, Reference, Word}
 use Rattle.pal_lex.specs.declared.phrases.Part.{Part}
-use Rattle.pal_asm.specs.declared.faults.Code.{Code}
-use Rattle.pal_asm.specs.declared.faults.Code.TheVariants.{DT}
+use Rattle.pal_faults.specs.declared.assembling.Code.{Code}
+use Rattle.pal_faults.specs.declared.assembling.Code.TheVariants.{DT}
 use Rattle.pal_asm.specs.declared.spots.Spot.{Spot}
 use Rattle.pal_asm.specs.declared.spots.TheConstants.{FIRST_PLACE}
 use Rattle.pal_asm.specs.Expressions.{Meanings, value_of}

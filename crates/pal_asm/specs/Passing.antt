@@ -13,8 +13,8 @@ use Rattle.pal_asm.specs.Words.{pairs_by}
 use Rattle.pal_asm.specs.Faults.{first_of, first_order, words_fault, no_end, no_word}
 use Rattle.pal_asm.specs.Passes.{IsFirst, IsSecond}
 use Rattle.pal_asm.specs.Progress as asm
-use Rattle.pal_asm.specs.declared.faults.AsmFault.{AsmFault}
-use Rattle.pal_asm.specs.declared.faults.AsmFault.TheVariants.{At, Memory}
+use Rattle.pal_faults.specs.declared.assembling.AsmFault.{AsmFault}
+use Rattle.pal_faults.specs.declared.assembling.AsmFault.TheVariants.{At, Memory}
 use Rattle.pal_asm.specs.declared.passing.Pass.{Pass}
 
 -- ## A pass in one of several sources

@@ -1,7 +1,7 @@
 -- How far an assembler is.
 use Rattle.std.specs.Prelude.{ℕ, Bool, Option}
 use Rattle.pal_sym.specs.SymbolTable.{SymbolTable}
-use Rattle.pal_asm.specs.declared.faults.AsmFault.{AsmFault}
+use Rattle.pal_faults.specs.declared.assembling.AsmFault.{AsmFault}
 use Rattle.pal_asm.specs.declared.spots.Spot.{Spot}
 
 pub record Progress : Type 0 where

@@ -7,8 +7,8 @@ use Rattle.pal_lex.specs.Reading.{HasRead, is_pause_body, with_tokens}
 use Rattle.pal_lex.specs.Progress as lex
 use Rattle.pal_lex.specs.declared.phrases.Statement.{Statement}
 use Rattle.pal_lex.specs.declared.pieces.Token.{Token}
-use Rattle.pal_asm.specs.declared.faults.AsmFault.{AsmFault}
-use Rattle.pal_asm.specs.declared.faults.AsmFault.TheVariants.{At, Memory}
+use Rattle.pal_faults.specs.declared.assembling.AsmFault.{AsmFault}
+use Rattle.pal_faults.specs.declared.assembling.AsmFault.TheVariants.{At, Memory}
 use Rattle.pal_asm.specs.declared.passing.Pass.{Pass}
 use Rattle.pal_asm.specs.Places.{Source, values}
 use Rattle.pal_asm.specs.Words.{pairs_by, pairs_of}

@@ -3,8 +3,8 @@ use Rattle.std.specs.Prelude.{◌≡◌, ℕ, Bool, true, false, Some, None, Lis
 use Rattle.std.specs.Borrow.{Bor}
 use Rattle.pal_lex.specs.Text.{text_of}
 use Rattle.pal_lex.specs.Statements.{statements}
-use Rattle.pal_asm.specs.declared.faults.AsmFault.{AsmFault}
-use Rattle.pal_asm.specs.declared.faults.AsmFault.TheVariants.{At, Memory}
+use Rattle.pal_faults.specs.declared.assembling.AsmFault.{AsmFault}
+use Rattle.pal_faults.specs.declared.assembling.AsmFault.TheVariants.{At, Memory}
 use Rattle.pal_asm.specs.Places.{Source, values}
 use Rattle.pal_asm.specs.Words.{pairs_of}
 use Rattle.pal_asm.specs.Faults.{first_of, first_order, words_fault, no_end, no_word, fault_of}

@@ -2,7 +2,7 @@ ghost use Rattle.std.specs.Prelude.{◌≡◌, ◌+◌, ◌<◌, ◌≤◌, ℕ,
 ghost use Rattle.pal_sym.specs.Values.{symbol_value};
 ghost use Rattle.pal_lex.specs.declared.pieces.Token.{Token};
 ghost use Rattle.pal_lex.specs.Reading.{with_tokens, is_pause_body};
-ghost use Rattle.pal_asm.specs.declared.faults.AsmFault.TheVariants.{At};
+ghost use Rattle.pal_faults.specs.declared.assembling.AsmFault.TheVariants.{At};
 ghost use Rattle.pal_asm.specs.Places.{Source};
 ghost use Rattle.pal_asm.specs.Faults.{past};
 ghost use Rattle.pal_asm.specs.PassSteps.{Moves, MakesBody, spot_by, spot_fault, with_tags_again, with_body_again, SetsValue};

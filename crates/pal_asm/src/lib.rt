@@ -9,7 +9,6 @@
 mod again;
 mod assemblers;
 mod expressions;
-mod faults;
 pub mod laws;
 mod making;
 mod names;
@@ -19,7 +18,7 @@ mod texts;
 mod words;
 
 pub use assemblers::Assembler;
-pub use faults::{AsmFault, Code};
 pub use making::make_text;
+pub use pal_faults::{AsmFault, Code};
 pub use passing::{Pass, begin_second_pass, end_source, pass_text, settle};
 pub use texts::{assemble, assemble_all};

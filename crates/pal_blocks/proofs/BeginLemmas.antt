@@ -8,7 +8,7 @@ use Rattle.pal_lex.specs.Reading.{HasRead}
 use Rattle.char_pack.specs.Texts.{is_ended}
 use Rattle.pal_asm.specs.Passes.{IsFirst}
 use Rattle.pal_asm.specs.Faults.{first_of, first_order, no_end}
-use Rattle.pal_asm.specs.declared.faults.AsmFault.{AsmFault}
+use Rattle.pal_faults.specs.declared.assembling.AsmFault.{AsmFault}
 use Rattle.pal_blocks.specs.Blocks.{blocks_among, blocks_of_each, first_blocks, first_among, AreFiles, assembling_turns, turn_of}
 use Rattle.pal_blocks.specs.Sources.{newest_first}
 use Rattle.pal_blocks.specs.Schedule.{joined_blocks, from_turn, known_again, fault_at_turn}

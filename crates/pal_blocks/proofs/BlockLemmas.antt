@@ -7,8 +7,8 @@ use Rattle.pal_lex.specs.Progress as lex
 use Rattle.pal_lex.specs.Joins.{join_of}
 use Rattle.pal_asm.specs.Places.{Source, values}
 use Rattle.pal_asm.specs.Faults.{first_order, words_fault}
-use Rattle.pal_asm.specs.declared.faults.AsmFault.{AsmFault}
-use Rattle.pal_asm.specs.declared.faults.AsmFault.TheVariants.{At, Memory}
+use Rattle.pal_faults.specs.declared.assembling.AsmFault.{AsmFault}
+use Rattle.pal_faults.specs.declared.assembling.AsmFault.TheVariants.{At, Memory}
 use Rattle.pal_asm.specs.declared.passing.Pass.{Pass}
 use Rattle.pal_blocks.specs.Passing.{text_in, characters_added}
 use Rattle.pal_asm.specs.Passing.{Counts, Pause, Stands, StandsAfter, TellsJoinFault, HasPassed, SettlesIn, PassesTo, HasMade, IsWithin, MakesTo}

@@ -12,9 +12,9 @@ use Rattle.pal_lex.specs.Reading.{HasRead, HasPaused}
 use Rattle.pal_lex.specs.Progress as lex
 use Rattle.pal_asm.specs.Places.{Source}
 use Rattle.pal_asm.specs.Faults.{no_end}
-use Rattle.pal_asm.specs.declared.faults.AsmFault.{AsmFault}
-use Rattle.pal_asm.specs.declared.faults.AsmFault.TheVariants.{At}
-use Rattle.pal_asm.specs.declared.faults.Code.TheVariants.{NE}
+use Rattle.pal_faults.specs.declared.assembling.AsmFault.{AsmFault}
+use Rattle.pal_faults.specs.declared.assembling.AsmFault.TheVariants.{At}
+use Rattle.pal_faults.specs.declared.assembling.Code.TheVariants.{NE}
 use Rattle.pal_blocks.specs.Blocks.{blocks_in, blocks_among, blocks_of_each, first_blocks, first_among, AreFiles}
 use Rattle.pal_blocks.specs.Sources.{texts_of, newest_first}
 use Rattle.pal_blocks.specs.Schedule.{statements_in, joined_blocks, if_paused}

@@ -5,7 +5,7 @@ use Rattle.std.proofs.lemmas.Bool.Decides.{leb_tells}
 use Rattle.char_pack.specs.Packing.{frames}
 use Rattle.char_pack.specs.Texts.{is_ended}
 use Rattle.pal_lex.specs.Text.{text_from, text_of, is_over, line_after}
-use Rattle.pal_asm.specs.declared.faults.Code.TheVariants.{NE}
+use Rattle.pal_faults.specs.declared.assembling.Code.TheVariants.{NE}
 use Rattle.char_pack.specs.Texts.{text}
 use Rattle.std.proofs.lemmas.List.{take_all}
 use Rattle.pal_lex.specs.Joins.{before_pause}
@@ -17,8 +17,8 @@ use Rattle.pal_asm.specs.Places.{Source, values}
 use Rattle.pal_asm.specs.Faults.{first_of, first_order, no_end, no_word, words_fault, fault_of}
 use Rattle.pal_asm.specs.Laws.{NoWordIsTold}
 use Rattle.pal_asm.specs.Passes.{IsFirst}
-use Rattle.pal_asm.specs.declared.faults.AsmFault.{AsmFault}
-use Rattle.pal_asm.specs.declared.faults.AsmFault.TheVariants.{At, Memory}
+use Rattle.pal_faults.specs.declared.assembling.AsmFault.{AsmFault}
+use Rattle.pal_faults.specs.declared.assembling.AsmFault.TheVariants.{At, Memory}
 use Rattle.pal_asm.specs.declared.passing.Pass.{Pass}
 use Rattle.pal_blocks.specs.declared.assembling.Assembling.{Assembling}
 use Rattle.pal_blocks.specs.Blocks.{blocks_in, blocks_among, blocks_of_each, first_blocks, first_among, block_at, AreFiles, assembling_turns, turn_of}

@@ -3,8 +3,8 @@ use Rattle.std.proofs.Common.{◌≡◌, ℕ, Some, None, List, [], ◌∷◌, �
 use Rattle.char_pack.specs.Packing.{block_words}
 use Rattle.char_pack.specs.Texts.{words_of_text}
 use Rattle.pal_lex.specs.Statements.{statements}
-use Rattle.pal_asm.specs.declared.faults.AsmFault.TheVariants.{At}
-use Rattle.pal_asm.specs.declared.faults.Code.TheVariants.{IR, NE, NU, NW, SY, UA}
+use Rattle.pal_faults.specs.declared.assembling.AsmFault.TheVariants.{At}
+use Rattle.pal_faults.specs.declared.assembling.Code.TheVariants.{IR, NE, NU, NW, SY, UA}
 use Rattle.pal_sym.specs.Permanent.{permanent}
 use Rattle.pal_blocks.specs.Blocks.{turn_of, assembling_turns}
 use Rattle.pal_blocks.specs.Schedule.{fault_at_turn}

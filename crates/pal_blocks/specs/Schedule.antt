@@ -7,7 +7,7 @@ use Rattle.pal_lex.specs.Statements.{statements}
 use Rattle.pal_lex.specs.Joins.{before_pause}
 use Rattle.pal_asm.specs.Places.{Source, values}
 use Rattle.pal_asm.specs.Faults.{first_of, first_order, no_end, words_fault, no_word}
-use Rattle.pal_asm.specs.declared.faults.AsmFault.{AsmFault}
+use Rattle.pal_faults.specs.declared.assembling.AsmFault.{AsmFault}
 use Rattle.pal_blocks.specs.Blocks.{blocks_in, blocks_among, first_among}
 use Rattle.pal_blocks.specs.Sources.{newest_first}
 

@@ -6,8 +6,8 @@ use Rattle.pal_lex.specs.Text.{text_from}
 use Rattle.pal_asm.specs.Places.{Source, values}
 use Rattle.pal_asm.specs.Faults.{first_order, words_fault}
 use Rattle.pal_asm.specs.Passing.{TellsJoinFault, HasPassed, HasMade}
-use Rattle.pal_asm.specs.declared.faults.AsmFault.{AsmFault}
-use Rattle.pal_asm.specs.declared.faults.AsmFault.TheVariants.{At, Memory}
+use Rattle.pal_faults.specs.declared.assembling.AsmFault.{AsmFault}
+use Rattle.pal_faults.specs.declared.assembling.AsmFault.TheVariants.{At, Memory}
 use Rattle.pal_asm.specs.declared.passing.Pass.{Pass}
 use Rattle.pal_blocks.specs.Passing.{text_in, characters_added}
 use Rattle.bin_tape.specs.Pairs.{ArePairs}

@@ -2,8 +2,8 @@
 use Rattle.std.specs.Prelude.{◌≡◌, ℕ, ◌-◌, None, Some, List, [], Result, Ok, Err}
 use Rattle.std.specs.Global.{Vec}
 use Rattle.pal_asm.specs.Faults.{fault_of}
-use Rattle.pal_asm.specs.declared.faults.AsmFault.{AsmFault}
-use Rattle.pal_asm.specs.declared.faults.AsmFault.TheVariants.{At, Memory}
+use Rattle.pal_faults.specs.declared.assembling.AsmFault.{AsmFault}
+use Rattle.pal_faults.specs.declared.assembling.AsmFault.TheVariants.{At, Memory}
 use Rattle.pal_blocks.specs.declared.assembling.Assembling.{Assembling}
 use Rattle.pal_blocks.specs.Blocks.{blocks_among, assembling_turns, turn_of}
 use Rattle.pal_blocks.specs.Sources.{newest_first, assembled_words, IsTapeOfSources}

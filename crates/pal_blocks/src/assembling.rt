@@ -1,7 +1,7 @@
 ghost use Rattle.std.specs.Prelude.{◌≡◌, ◌<◌, ◌≤◌, ℕ, ◌+◌, IfOk, IfErr, nat_lt, true, false, List, [], length, get_or};
 ghost use Rattle.word12.specs.declared.sizes.TheConstants.{BLOCK};
 ghost use Rattle.pal_lex.specs.Reading.{HasRead};
-ghost use Rattle.pal_asm.specs.declared.faults.AsmFault.TheVariants.{Memory};
+ghost use Rattle.pal_faults.specs.declared.assembling.AsmFault.TheVariants.{Memory};
 ghost use Rattle.pal_blocks.specs.Blocks.{blocks_among, blocks_of_each, AreFiles, assembling_turns};
 ghost use Rattle.pal_blocks.specs.Progress.{due_of, block_of, IsBlockOf, IsAssembling};
 ghost use Rattle.pal_blocks.specs.Turns.{TakesBlock, MakesTarget, MakesNone};

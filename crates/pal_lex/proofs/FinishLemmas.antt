@@ -10,8 +10,8 @@ use Rattle.pal_lex.specs.Joins.{is_lone_pause, is_pause}
 use Rattle.pal_lex.specs.Progress.{Progress}
 use Rattle.pal_lex.specs.JudgeSteps.{Judges, dies, comment_after, after_statement, ended_statement, after_pause, pause_statement, next, after_fault}
 use Rattle.pal_lex.specs.Reading.{IsReading, StateIs, HasRead, IsPaused, HasPaused, tokens_after, tokens_since, with_tokens, is_pause_body, IsHandedOut, Pauses, HandsOut, TellsFault, Answers, ReadsOn, BeginsSource}
-use Rattle.pal_lex.specs.declared.faults.LexFault.{LexFault}
-use Rattle.pal_lex.specs.declared.faults.LexFault.TheVariants.{IC, SY, NU, NE, Memory}
+use Rattle.pal_faults.specs.declared.lexical.LexFault.{LexFault}
+use Rattle.pal_faults.specs.declared.lexical.LexFault.TheVariants.{IC, SY, NU, NE, Memory}
 use Rattle.pal_lex.specs.declared.lexing.State.{State}
 use Rattle.pal_lex.specs.declared.lexing.State.TheVariants.{Reading, Over, Failed}
 use Rattle.pal_lex.specs.declared.phrases.Said.{Said}

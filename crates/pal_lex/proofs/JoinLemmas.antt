@@ -7,8 +7,8 @@ use Rattle.pal_lex.specs.Runs.{tokens}
 use Rattle.pal_lex.specs.Statements.{radix_after, statements, fault_of, first_of, first_fault}
 use Rattle.pal_lex.specs.Joins.{is_lone_pause, is_pause, pauses, IsClear, first_text, before_pause, text_with_next, join_of}
 use Rattle.pal_lex.specs.Laws.{has_next, PauseIsBad, PauseJoins, JoinGoesOn, ByteGoesOn, EndsJoin}
-use Rattle.pal_lex.specs.declared.faults.LexFault.{LexFault}
-use Rattle.pal_lex.specs.declared.faults.LexFault.TheVariants.{SY}
+use Rattle.pal_faults.specs.declared.lexical.LexFault.{LexFault}
+use Rattle.pal_faults.specs.declared.lexical.LexFault.TheVariants.{SY}
 use Rattle.pal_lex.specs.declared.phrases.Statement.{Statement}
 use Rattle.pal_lex.specs.declared.runs.Radix.TheVariants.{Octal}
 use Rattle.pal_lex.proofs.LawLemmas.{one_more, newest, stays, fault_stays}

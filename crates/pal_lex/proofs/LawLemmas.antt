@@ -3,7 +3,7 @@ use Rattle.std.proofs.Common.{◌≡◌, ℕ, nat_eq, Bool, true, false, ◌&&�
 use Rattle.pal_lex.specs.Text.{is_dead, is_end, is_over, ends_statement, stretch, line_after, text_from}
 use Rattle.pal_lex.specs.Statements.{judge_statement, radix_after, statements, fault_of, first_of, first_fault}
 use Rattle.pal_lex.specs.Laws.{TextGrows, StatementsStay, EndsSource, FaultStays}
-use Rattle.pal_lex.specs.declared.faults.LexFault.{LexFault}
+use Rattle.pal_faults.specs.declared.lexical.LexFault.{LexFault}
 use Rattle.pal_lex.specs.declared.phrases.Statement.{Statement}
 
 grows_from : (text bytes : List ℕ) (b : ℕ) → text_from text (bytes ++ b ∷ []) ≡ b ∷ text_from text bytes

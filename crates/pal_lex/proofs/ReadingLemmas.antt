@@ -11,8 +11,8 @@ use Rattle.pal_lex.specs.Progress.{Progress}
 use Rattle.pal_lex.specs.JudgeSteps.{after_byte, after_statement}
 use Rattle.pal_lex.specs.Reading.{StateIs, HasRead, TellsFault, Answers, Ends, EndsSource}
 use Rattle.pal_lex.specs.Laws.{IsOfStatement, FaultsAreOfStatements}
-use Rattle.pal_lex.specs.declared.faults.LexFault.{LexFault}
-use Rattle.pal_lex.specs.declared.faults.LexFault.TheVariants.{IC, SY, NU, NE, Memory}
+use Rattle.pal_faults.specs.declared.lexical.LexFault.{LexFault}
+use Rattle.pal_faults.specs.declared.lexical.LexFault.TheVariants.{IC, SY, NU, NE, Memory}
 use Rattle.pal_lex.specs.declared.lexing.State.{State}
 use Rattle.pal_lex.specs.declared.lexing.State.TheVariants.{Over, Failed}
 use Rattle.pal_lex.specs.declared.pieces.Token.{Token}

@@ -7,8 +7,8 @@ use Rattle.pal_lex.specs.Runs.{base, run_kind, token, in_order, tokens}
 use Rattle.pal_lex.specs.Grammar.{phrase_of_tokens, has_bad_number}
 use Rattle.pal_lex.specs.Statements.{statement_or_fault, radix_after, with_stretch, statements}
 use Rattle.pal_lex.specs.Spans.{between, mark_of, token_of_bytes, Spells, AllSpell, HasSpans}
-use Rattle.pal_lex.specs.declared.faults.LexFault.{LexFault}
-use Rattle.pal_lex.specs.declared.faults.LexFault.TheVariants.{IC, NU}
+use Rattle.pal_faults.specs.declared.lexical.LexFault.{LexFault}
+use Rattle.pal_faults.specs.declared.lexical.LexFault.TheVariants.{IC, NU}
 use Rattle.pal_lex.specs.declared.pieces.Token.{Token}
 use Rattle.pal_lex.specs.declared.pieces.Term.TheVariants.{Here}
 use Rattle.pal_lex.specs.declared.pieces.Kind.{Kind}

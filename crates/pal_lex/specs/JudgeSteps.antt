@@ -1,8 +1,8 @@
 -- What a lexer makes of a byte and of a whole stretch, for private clauses.
 use Rattle.std.specs.Prelude.{◌≡◌, ℕ, ◌+◌, nat_eq, Bool, true, false, ◌||◌, if◌then◌else◌, Some, None, Result, Ok, Err, List, []}
 use Rattle.pal_lex.specs.Grammar.{phrase_of_tokens, has_bad_number}
-use Rattle.pal_lex.specs.declared.faults.LexFault.{LexFault}
-use Rattle.pal_lex.specs.declared.faults.LexFault.TheVariants.{IC, SY, NU, NE, Memory}
+use Rattle.pal_faults.specs.declared.lexical.LexFault.{LexFault}
+use Rattle.pal_faults.specs.declared.lexical.LexFault.TheVariants.{IC, SY, NU, NE, Memory}
 use Rattle.pal_lex.specs.declared.pieces.Token.{Token}
 use Rattle.pal_lex.specs.Text.{is_ignored, limit}
 use Rattle.pal_lex.specs.Drafting.{cut}

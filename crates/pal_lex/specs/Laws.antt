@@ -5,8 +5,8 @@ use Rattle.pal_lex.specs.Statements.{statements, first_fault}
 use Rattle.pal_lex.specs.Cutting.{Piece, Run, Mark, is_coded, is_space, sign_of, is_legal, has_illegal, pieces}
 use Rattle.pal_lex.specs.Runs.{tokens}
 use Rattle.pal_lex.specs.Joins.{pauses, IsClear, join_of}
-use Rattle.pal_lex.specs.declared.faults.LexFault.{LexFault}
-use Rattle.pal_lex.specs.declared.faults.LexFault.TheVariants.{IC, SY, NU, NE, Memory}
+use Rattle.pal_faults.specs.declared.lexical.LexFault.{LexFault}
+use Rattle.pal_faults.specs.declared.lexical.LexFault.TheVariants.{IC, SY, NU, NE, Memory}
 use Rattle.pal_lex.specs.declared.pieces.Kind.{Kind}
 use Rattle.pal_lex.specs.declared.phrases.Statement.{Statement}
 use Rattle.pal_lex.specs.declared.runs.Radix.{Radix}

@@ -7,7 +7,6 @@
 
 mod drafts;
 mod expressions;
-mod faults;
 mod grammar;
 mod growing;
 mod kinds;
@@ -19,8 +18,8 @@ mod phrases;
 mod pieces;
 mod runs;
 
-pub use faults::LexFault;
 pub use lexing::Lexer;
 pub use naming::Name;
+pub use pal_faults::LexFault;
 pub use phrases::{Body, Expression, Joint, Operation, Part, Statement, Tags};
 pub use pieces::{Kind, Term, Token, Tokens};

@@ -9,7 +9,7 @@ use Rattle.host_sources.specs.Sources.{newest_first}
 use Rattle.pal_asm.specs.Laws as pal3
 use Rattle.pal_asm.specs.Words.{pairs_of}
 use Rattle.pal_lex.specs.Text.{text_of}
-use Rattle.pal8_join.specs.Joins.{bytes_in, joined_bytes}
+use Rattle.pal8_tape.specs.Joins.{bytes_in, joined_bytes}
 use Rattle.pal8_tape.specs.Laws as pal8
 use Rattle.program_tasks.specs.declared.tasks.AssembleForm.{AssembleForm}
 use Rattle.assemble_commands.specs.Assembling.{options_of}

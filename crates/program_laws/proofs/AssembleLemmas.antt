@@ -9,7 +9,7 @@ use Rattle.char_pack.specs.declared.forms.PutForm.TheVariants.{Frames}
 use Rattle.host_sources.specs.declared.faults.SourceFault as pal3_fault
 use Rattle.host_sources.specs.declared.faults.SourceFault.TheVariants as pal3_is
 use Rattle.pal8_places.specs.declared.options.Options.{Options}
-use Rattle.pal8_notes.specs.Texts.{notes_text}
+use Rattle.pal8_listing.specs.NotesTexts.{notes_text}
 use Rattle.pal8_tape.specs.declared.faults.SourceFault as pal8_fault
 use Rattle.pal8_tape.specs.declared.faults.SourceFault.TheVariants as pal8_is
 use Rattle.archive_files.specs.Asking.{Target, OfName, target_of}

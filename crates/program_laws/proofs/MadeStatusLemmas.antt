@@ -13,9 +13,9 @@ use Rattle.program_tasks.specs.declared.forms.ImageForm.{ImageForm}
 use Rattle.program_tasks.specs.declared.tasks.Task.{Task}
 use Rattle.image_files.specs.Work.{Then}
 use Rattle.salvage_commands.specs.Rescuing.{RescuesImage}
-use Rattle.task_commands.specs.Asking.{AsksFirst}
-use Rattle.task_commands.specs.Changes.{AreBusy, Within}
-use Rattle.task_commands.specs.Tasks.{DoesTask, RunsTask}
+use Rattle.program.specs.Asking.{AsksFirst}
+use Rattle.program.specs.Changes.{AreBusy, Within}
+use Rattle.program.specs.Tasks.{DoesTask, RunsTask}
 use Rattle.keeper_laws.specs.Ended.{DoesNothing, EndsAs, RefusesAloud, SaysNo}
 use Rattle.keeper_laws.specs.Made.{EndsMade, EndsRescued, HasRescued, MakesNone, MayBeInPart}
 use Rattle.keeper_laws.proofs.MakeLemmas.{nothing-made}
@@ -94,7 +94,7 @@ made-ill done reports Misuse old new s = absurd s
 
 -- a try that made no file, and the time after it
 after-pause : (old after : List Event) → MakesNone old after → MakesNone old (pause_call ∷ after)
-after-pause old after m = record { path = m.path; there = m.there; others = m.others; prints = m.prints }
+after-pause old after m = record { path = m.path; there = m.there; alone = record { others = m.alone.others; beside = m.alone.beside }; prints = m.prints }
 
 vain-after : (command : List Event → Result (Unit {0}) Ending → List Event → Type 0) → ((old new : List Event) → command old (Err (Busy Held)) new → MakesNone old new)
     → (begun : List (List Event)) (old mid new : List Event) → DoesNothing old mid → AreBusy command begun mid new → AreVain begun old new

@@ -9,7 +9,7 @@ use Rattle.hosts.specs.declared.faults.HostFault.TheVariants as host
 use Rattle.program_tasks.specs.declared.archives.IndexForm.{IndexForm}
 use Rattle.program_tasks.specs.declared.forms.BlocksForm.{BlocksForm}
 use Rattle.program_tasks.specs.declared.forms.CheckForm.{CheckForm}
-use Rattle.program_tasks.specs.declared.forms.FileForm.{FileForm}
+use Rattle.archive_files.specs.declared.asking.Asked.{Asked}
 use Rattle.program_tasks.specs.declared.forms.ImageForm.{ImageForm}
 use Rattle.program_tasks.specs.declared.forms.ListForm.{ListForm}
 use Rattle.program_tasks.specs.declared.forms.TapeForm.{TapeForm}
@@ -32,7 +32,7 @@ use Rattle.outcome.specs.declared.contents.Content.TheVariants.{Image as Held}
 use Rattle.outcome.specs.declared.endings.Ending.{Ending}
 use Rattle.outcome.specs.declared.endings.Ending.TheVariants.{Line, Fault, Failure, Busy, NotWritten, FullOutput, Unreported, NoReader, Misuse}
 use Rattle.outcome.specs.declared.reasons.Reason.TheVariants as reason
-use Rattle.script8.specs.declared.faults.SessionFault.TheVariants.{Memory}
+use Rattle.refusals.specs.declared.faults.SessionFault.TheVariants.{Memory}
 use Rattle.outcome.specs.declared.notes.FileNote.{FileNote}
 use Rattle.outcome.specs.declared.outcomes.Outcome.{Outcome}
 use Rattle.outcome.specs.declared.outcomes.Stream.{Stream}
@@ -53,7 +53,7 @@ use Rattle.image_files.specs.declared.states.ChangeState.{ChangeState}
 use Rattle.image_files.specs.declared.states.ImageNotes.{ImageNotes}
 use Rattle.keeper_laws.specs.Ended.{DoesNothing}
 use Rattle.get_commands.specs.Showing.{Shows}
-use Rattle.asked_files.specs.Asking.{wanted_file}
+use Rattle.archive_files.specs.Asking.{target_of}
 use Rattle.get_commands.specs.ShowingParts.{ShowsBlocks, ShowsTape}
 use Rattle.show_commands.specs.Checking.{ChecksImages}
 use Rattle.show_commands.specs.Volumes.{ReportsOne}
@@ -74,8 +74,8 @@ use Rattle.script_commands.specs.Scripts.{OpensFor, RunsOver, RunsScript}
 use Rattle.run_commands.specs.Profiles.{ProfilesTape}
 use Rattle.run_commands.specs.Teletypes.{RunsTeletype}
 use Rattle.run_commands.specs.Traces.{TracesTape}
-use Rattle.task_commands.specs.Changes.{AreBusy, TellsBusy, Within, file_for, seconds_for}
-use Rattle.task_commands.specs.Tasks.{ChoosesStyle, DoesTask, ListsIndex, RunsImage, RunsTask, ScansBlocks, reading_of_index, shape_of}
+use Rattle.program.specs.Changes.{AreBusy, TellsBusy, Within, file_for, seconds_for}
+use Rattle.program.specs.Tasks.{ChoosesStyle, DoesTask, ListsIndex, RunsImage, RunsTask, ScansBlocks, reading_of_index, shape_of}
 use Rattle.program_laws.specs.Quiet.{has_output, may_change, saves}
 
 same : {old new : List Event} → new ≡ old → ChangesNothing old new
@@ -184,9 +184,9 @@ none-is (Some x) is = absurd (true≢false is)
 
 -- what the crates below know of their commands is handed in
 module _
-    (gets : (file : FileForm) (how : GetForm) (form : ImageForm) → KeepsFiles (Shows (λ bytes. Gets bytes (wanted_file file) how) form))
+    (gets : (file : Asked) (how : GetForm) (form : ImageForm) → KeepsFiles (Shows (λ bytes. Gets bytes (target_of file) how) form))
     (blocks : (form : BlocksForm) → KeepsFiles (ShowsBlocks form))
-    (tape-of : (file : FileForm) (form : ImageForm) → KeepsFiles (ShowsTape file form))
+    (tape-of : (file : Asked) (form : ImageForm) → KeepsFiles (ShowsTape file form))
     (reports : (kind : ReportKind) (reading : ImageReading) (file : List ℕ) → KeepsFiles (ReportsOne kind reading file))
     (checks : (form : CheckForm) → KeepsFiles (ChecksImages form))
     (lists : (form : ListForm) → KeepsFiles (ListsSome form))
@@ -244,7 +244,6 @@ module _
     does-keep (task.GetTexts form) is_typed input keys script quiet = texts form.image form.is_all (map (λ name. name.bytes.items) form.names.items) form.places.items
     does-keep (task.GetBlocks form) is_typed input keys script quiet = blocks form
     does-keep (task.Put form) is_typed input keys script quiet = absurd (true≢false quiet)
-    does-keep (task.PutMany form) is_typed input keys script quiet = absurd (true≢false quiet)
     does-keep (task.Delete form) is_typed input keys script quiet = absurd (true≢false quiet)
     does-keep (task.Rename image file new) is_typed input keys script quiet = absurd (true≢false quiet)
     does-keep (task.Copy form) is_typed input keys script quiet = absurd (true≢false quiet)

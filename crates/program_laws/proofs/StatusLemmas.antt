@@ -7,8 +7,8 @@ use Rattle.hosts.specs.Place.{Step, about, replay}
 use Rattle.hosts.specs.Saving.{IsAsItWas, StaysAsItWas}
 use Rattle.hosts.specs.Streams.{output}
 use Rattle.hosts.specs.declared.faults.Unwritten.TheVariants as unwritten
-use Rattle.script8.specs.declared.faults.SessionFault.{SessionFault}
-use Rattle.script8.specs.declared.faults.SessionFault.TheVariants as session
+use Rattle.refusals.specs.declared.faults.SessionFault.{SessionFault}
+use Rattle.refusals.specs.declared.faults.SessionFault.TheVariants as session
 use Rattle.outcome.specs.Notes.{text_on_file}
 use Rattle.outcome.specs.Outcomes.{Writing, ending_outcome, fault_outcome, outcome_of}
 use Rattle.outcome.specs.Shown.{writing_of, writing_on}
@@ -28,27 +28,25 @@ use Rattle.program_tasks.specs.declared.forms.CopyManyForm.{CopyManyForm}
 use Rattle.program_tasks.specs.declared.forms.CreateForm.{CreateForm}
 use Rattle.program_tasks.specs.declared.forms.DeleteForm.{DeleteForm}
 use Rattle.program_tasks.specs.declared.forms.ImageForm.{ImageForm}
-use Rattle.program_tasks.specs.declared.forms.PutManyForm.{PutManyForm}
-use Rattle.program_tasks.specs.declared.forms.PutOneForm.{PutOneForm}
+use Rattle.program_tasks.specs.declared.forms.PutFilesForm.{PutFilesForm}
 use Rattle.program_tasks.specs.declared.tasks.AssembleForm.{AssembleForm}
 use Rattle.program_tasks.specs.declared.tasks.Task.{Task}
-use Rattle.script8.specs.declared.faults.SessionFault.TheVariants.{Memory}
+use Rattle.refusals.specs.declared.faults.SessionFault.TheVariants.{Memory}
 use Rattle.image_files.specs.Ending.{EndsAfter, EndsInstead, EndsSo, EndsUnread, PrintsLine, PrintsOutcome, TellsLine, with_note}
 use Rattle.image_files.specs.Saving.{IsDone, Prints}
 use Rattle.image_files.specs.States.{TellsState, state_at_end, state_refused}
 use Rattle.image_files.specs.declared.states.ChangeState.{ChangeState}
 use Rattle.image_files.specs.declared.states.ImageNotes.{ImageNotes}
 use Rattle.image_files.specs.Work.{Then}
-use Rattle.task_commands.specs.Asking.{AsksFirst, AsksFull, AsksSeen, IsFull}
-use Rattle.task_commands.specs.Changes.{AreBusy, Within}
-use Rattle.task_commands.specs.Tasks.{DoesTask, RunsTask}
+use Rattle.program.specs.Asking.{AsksFirst, AsksFull, AsksSeen, IsFull}
+use Rattle.program.specs.Changes.{AreBusy, Within}
+use Rattle.program.specs.Tasks.{DoesTask, RunsTask}
 use Rattle.keeper_laws.specs.Changes.{HasDeleted, HasEmptied, HasPatched, HasRenamed, HasSqueezed}
 use Rattle.keeper_laws.specs.Copied.{HasCopied}
 use Rattle.keeper_laws.specs.CopiedAll.{HasCopiedAll}
 use Rattle.keeper_laws.specs.Ended.{AllStay, DoesNothing, EndsAs}
 use Rattle.keeper_laws.specs.Made.{HasCreated}
 use Rattle.keeper_laws.specs.Stored.{HasStored}
-use Rattle.keeper_laws.specs.StoredAll.{HasStoredAll}
 use Rattle.program_laws.specs.Assembled.{HasAssembled}
 use Rattle.program_laws.specs.Statuses.{LeavesImage, Means, MeansSo, failed_prints}
 use Rattle.program_laws.proofs.QuietLemmas.{busy-told, ends-so, tells-state}
@@ -364,11 +362,8 @@ module _ (form : ImageForm) (done : Bool → List Event → List Event → Type 
 
 -- ## The commands
 
-pub put-reports : (form : PutOneForm) → Reports (HasStored form)
+pub put-reports : (form : PutFilesForm) → Reports (HasStored form)
 put-reports form = record { well = λ old new s. ap failed_prints s.prints; unprinted = λ old new s. ap failed_prints s.prints }
-
-pub put-all-reports : (form : PutManyForm) → Reports (HasStoredAll form)
-put-all-reports form = record { well = λ old new s. ap failed_prints s.prints; unprinted = λ old new s. ap failed_prints s.prints }
 
 pub copy-reports : (form : CopyForm) → Reports (HasCopied form)
 copy-reports form = record { well = λ old new s. ap failed_prints s.prints; unprinted = λ old new s. ap failed_prints s.prints }

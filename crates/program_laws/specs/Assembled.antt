@@ -12,7 +12,7 @@ use Rattle.pal_asm.specs.Words.{pairs_of}
 use Rattle.host_sources.specs.Answers as pal3
 use Rattle.host_sources.specs.Sources.{newest_first}
 use Rattle.pal8_asm.specs.Assembling.{IsAssembled}
-use Rattle.pal8_join.specs.Joins.{bytes_in}
+use Rattle.pal8_tape.specs.Joins.{bytes_in}
 use Rattle.pal8_tape.specs.Answers as pal8
 use Rattle.archive_files.specs.Asking.{OfName}
 use Rattle.archive_files.specs.Getting.{Gets}

@@ -35,7 +35,6 @@ may_change (task.GetMany form) = true
 may_change (task.GetTexts form) = false
 may_change (task.GetBlocks form) = false
 may_change (task.Put form) = true
-may_change (task.PutMany form) = true
 may_change (task.Delete form) = true
 may_change (task.Rename image file new) = true
 may_change (task.Copy form) = true

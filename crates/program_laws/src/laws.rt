@@ -9,10 +9,9 @@ ghost use Rattle.program_tasks.specs.declared.forms.CopyForm.{CopyForm as Copy};
 ghost use Rattle.program_tasks.specs.declared.forms.CopyManyForm.{CopyManyForm as CopyMany};
 ghost use Rattle.program_tasks.specs.declared.forms.CreateForm.{CreateForm as Create};
 ghost use Rattle.program_tasks.specs.declared.forms.DeleteForm.{DeleteForm as Delete};
-ghost use Rattle.program_tasks.specs.declared.forms.FileForm.{FileForm as Meant};
+ghost use Rattle.archive_files.specs.declared.asking.Asked.{Asked as Meant};
 ghost use Rattle.program_tasks.specs.declared.forms.ImageForm.{ImageForm as Kept};
-ghost use Rattle.program_tasks.specs.declared.forms.PutManyForm.{PutManyForm as PutMany};
-ghost use Rattle.program_tasks.specs.declared.forms.PutOneForm.{PutOneForm as PutOne};
+ghost use Rattle.program_tasks.specs.declared.forms.PutFilesForm.{PutFilesForm as Put};
 ghost use Rattle.outcome.specs.declared.endings.Ending.{Ending as End};
 ghost use Rattle.program_tasks.specs.declared.archives.PatchForm.{PatchForm as Patch};
 ghost use Rattle.program_tasks.specs.declared.archives.RescueForm.{RescueForm as Rescue};
@@ -21,7 +20,7 @@ ghost use Rattle.program_tasks.specs.declared.tasks.Task.{Task as Asked};
 ghost use Rattle.program_tasks.specs.declared.tasks.Task.TheVariants as asked;
 ghost use Rattle.image_files.specs.Laws.{KeepsFiles, ChangesNothing};
 ghost use Rattle.assemble_commands.specs.Assembling.{Assembles};
-ghost use Rattle.task_commands.specs.Tasks.{DoesTask, RunsTask, word_patch};
+ghost use Rattle.program.specs.Tasks.{DoesTask, RunsTask, word_patch};
 ghost use Rattle.change_commands.specs.Creating.{IsBlankDisk, IsBlankImage, IsBlankTapeFile};
 ghost use Rattle.change_commands.specs.declared.creating.TheConstants.{DISK_BLOCKS, TAPE_BLOCKS};
 ghost use Rattle.program_laws.specs.Assembled.{HasAssembled, IsMapOf};
@@ -33,9 +32,8 @@ ghost use Rattle.keeper_laws.specs.CopiedAll.{HasCopiedAll};
 ghost use Rattle.keeper_laws.specs.Ended.{EndsAs};
 ghost use Rattle.keeper_laws.specs.Made.{HasCreated};
 ghost use Rattle.keeper_laws.specs.Stored.{HasStored};
-ghost use Rattle.keeper_laws.specs.StoredAll.{HasStoredAll};
 ghost use Rattle.keeper_laws.specs.GettingBack.{IsPrinted};
-ghost use Rattle.asked_files.specs.Asking.{wanted_file};
+ghost use Rattle.archive_files.specs.Asking.{target_of};
 
 use archive_files::laws::put_is_got;
 use assemble_commands::laws::unchanged_files as unchanged_sources;
@@ -44,7 +42,7 @@ use byte_reader::ByteReader;
 use get_commands::laws::shown_files;
 use image_files::laws::found_again;
 use index_commands::laws::unchanged_files as unchanged_indexes;
-use keeper_laws::laws::{ended_changes, ended_creations, ended_many, ended_rescues, ended_words};
+use keeper_laws::laws::{ended_changes, ended_creations, ended_rescues, ended_words};
 use keeper_laws::verb_laws::unchanged_files as unchanged_choices;
 use pal_asm::laws::has_words as pal3_words;
 use pal8_tape::laws::has_words as pal8_words;
@@ -83,10 +81,8 @@ pub fn ended_assemblies()
 /// What each exit status of a change means for the files of who runs it. With 0 it is made, and its line was printed. With another one, where
 /// standard output took all that was printed, each file is as it was, or a note said that the image may hold a part.
 pub fn change_statuses<I: ByteReader>()
-    ensures puts { (form : PutOne) (is_typed : Bool) (before after : I) (old new : List Event) (status : ℕ)
+    ensures puts { (form : Put) (is_typed : Bool) (before after : I) (old new : List Event) (status : ℕ)
         → RunsTask (asked.Put form) is_typed (reading I.remaining I.has_failed before after) old new status → Means form.image (HasStored form) status old new }
-    ensures puts_all { (form : PutMany) (is_typed : Bool) (before after : I) (old new : List Event) (status : ℕ)
-        → RunsTask (asked.PutMany form) is_typed (reading I.remaining I.has_failed before after) old new status → Means form.image (HasStoredAll form) status old new }
     ensures copies { (form : Copy) (is_typed : Bool) (before after : I) (old new : List Event) (status : ℕ)
         → RunsTask (asked.Copy form) is_typed (reading I.remaining I.has_failed before after) old new status → Means form.to (HasCopied form) status old new }
     ensures copies_all { (form : CopyMany) (is_typed : Bool) (before after : I) (old new : List Event) (status : ℕ)
@@ -95,12 +91,11 @@ pub fn change_statuses<I: ByteReader>()
         → RunsTask (asked.Squeeze form) is_typed (reading I.remaining I.has_failed before after) old new status → Means form (HasSqueezed form) status old new }
     ensures renames { (form : Kept) (file : Meant) (name : String Heap) (is_typed : Bool) (before after : I) (old new : List Event) (status : ℕ)
         → RunsTask (asked.Rename form file name) is_typed (reading I.remaining I.has_failed before after) old new status
-        → Means form (HasRenamed (wanted_file file) name.bytes.items form) status old new }
+        → Means form (HasRenamed (target_of file) name.bytes.items form) status old new }
     ensures deletes { (form : Delete) (is_typed : Bool) (before after : I) (old new : List Event) (status : ℕ)
         → RunsTask (asked.Delete form) is_typed (reading I.remaining I.has_failed before after) old new status → Means form.image (HasDeleted form) status old new }
 {
     ended_changes();
-    ended_many();
 }
 
 /// The same of `patch`, of `create` where it makes one volume of a disk empty, and of `assemble --onto` where no listing is named. Where `patch`

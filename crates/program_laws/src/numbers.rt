@@ -5,7 +5,7 @@ ghost use Rattle.image_kind.specs.Directories.{byte_of, entry_words, is_sound, n
 ghost use Rattle.image_kind.specs.Kinds.{are_blocks, is_disk_volume, is_form_at};
 ghost use Rattle.image_kind.specs.declared.directories.Blocks.{Blocks};
 ghost use Rattle.image_kind.specs.declared.kinds.Form.TheVariants.{Dectape as AsTape};
-ghost use Rattle.pal8_join.specs.Joins.{bytes_in};
+ghost use Rattle.pal8_tape.specs.Joins.{bytes_in};
 ghost use Rattle.pal8_places.specs.Places.{next_stay};
 ghost use Rattle.pal8_places.specs.declared.options.Options.{Options as Chosen};
 ghost use Rattle.pal8_tape.specs.Further.{ended_texts, faults_after, further_faults, is_passed};
@@ -14,7 +14,7 @@ ghost use Rattle.char_pack.specs.declared.packing.TheConstants.{BLOCK_FRAMES};
 ghost use Rattle.disk_layouts.specs.declared.sizes.TheConstants.{DISK, DISK_VOLUME, TAPE, TAPE_VOLUME};
 ghost use Rattle.change_commands.specs.declared.creating.TheConstants.{DISK_BLOCKS, TAPE_BLOCKS};
 ghost use Rattle.outcome.specs.declared.hints.TheConstants.{IMAGE};
-ghost use Rattle.script8.specs.declared.readings.TheConstants.{MOST};
+ghost use Rattle.refusals.specs.declared.faults.TheConstants.{MOST};
 ghost use Rattle.pal_asm.specs.declared.spots.TheConstants.{FIRST_PLACE as FIRST_OF_PAL3};
 ghost use Rattle.pal8_places.specs.declared.places.TheConstants.{FIRST_PLACE as FIRST_OF_PAL8};
 ghost use Rattle.assemble_commands.specs.declared.faults.TheConstants.{MOST_FURTHER};
@@ -23,7 +23,7 @@ ghost use Rattle.os8_dates.specs.declared.years.TheConstants.{FIRST_YEAR, LAST_Y
 ghost use Rattle.image_kind.specs.declared.lines.TheConstants.{MOST_LINES};
 ghost use Rattle.volume_salvage.specs.declared.scan_lines.TheConstants.{MOST_SHOWN};
 ghost use Rattle.command_table.specs.declared.table.TheConstants.{MOST_IMAGES};
-ghost use Rattle.task_commands.specs.declared.changes.TheConstants.{TRIES};
+ghost use Rattle.program.specs.declared.changes.TheConstants.{TRIES};
 
 /// How large words' places and volumes are, and where sources begin. How many lines, faults, images and tries there are at most, and which
 /// years dates have.

@@ -5,16 +5,13 @@ use Rattle.core_image.specs.declared.faults.CoreFault.{CoreFault}
 use Rattle.core_image.specs.declared.faults.CoreFault.TheVariants as core
 use Rattle.disk_layouts.specs.declared.faults.DiskFault.{DiskFault}
 use Rattle.disk_layouts.specs.declared.faults.DiskFault.TheVariants as disk
-use Rattle.source_names.specs.declared.faults.LineRefusal.{LineRefusal as Unnamed}
-use Rattle.source_names.specs.declared.faults.LineRefusal.TheVariants as unnamed
+use Rattle.pal_faults.specs.declared.names.LineRefusal.{LineRefusal as Unnamed}
+use Rattle.pal_faults.specs.declared.names.LineRefusal.TheVariants as unnamed
 use Rattle.rim_tape.specs.declared.faults.RimFault.{RimFault}
 use Rattle.rim_tape.specs.declared.faults.RimFault.TheVariants as rim
-use Rattle.terminal8.specs.declared.outcomes.Ended.{Ended}
-use Rattle.terminal8.specs.declared.outcomes.TerminalEnd.{TerminalEnd}
-use Rattle.terminal8.specs.declared.outcomes.TerminalEnd.TheVariants as why
 use Rattle.volume_image.specs.declared.faults.ImageFault.{ImageFault}
 use Rattle.volume_image.specs.declared.faults.ImageFault.TheVariants as image
-use Rattle.script8.specs.Faults.{directory_fault_text}
+use Rattle.refusals.specs.Faults.{directory_fault_text}
 use Rattle.name_spelling.specs.Spelling.{text_of}
 use Rattle.program_reports.specs.declared.programs.ProgramLine.{ProgramLine}
 use Rattle.program_reports.specs.declared.programs.ProgramLine.TheVariants as line
@@ -39,24 +36,6 @@ abbrev pub core_text : CoreFault → List ℕ
 core_text (core.BadWord place word) = codes "? CORE 1 BAD WORD " ++ decimal place ++ codes " " ++ octal4 word
 core_text core.TooShort = codes "? CORE 2 TOO SHORT"
 core_text core.Memory = codes "? 10 MEMORY"
-
--- where a machine halted: the cell before which it stands, AC and L
-abbrev pub halted_text : ℕ → ℕ → ℕ → List ℕ
-halted_text cell ac l = codes "HALT " ++ octal5 cell ++ codes " AC " ++ octal4 ac ++ codes " L " ++ octal_digit l ∷ []
-
--- and MQ, on a machine that has one
-abbrev pub halted_with_mq_text : ℕ → ℕ → ℕ → ℕ → List ℕ
-halted_with_mq_text cell ac l mq = halted_text cell ac l ++ codes " MQ " ++ octal4 mq
-
-abbrev pub why_text : TerminalEnd → List ℕ
-why_text why.Halt = codes "HALT"
-why_text why.Unassigned = codes "UNASSIGNED"
-why_text why.Keys = codes "KEYS"
-why_text why.Limit = codes "LIMIT"
-
--- how many steps a machine made, why no more, and the cell before which it stands
-abbrev pub steps_text : Ended → ℕ → List ℕ
-steps_text ended cell = codes "STEPS " ++ decimal ended.steps ++ codes " " ++ why_text ended.why ++ codes " " ++ octal5 cell
 
 -- the number and the words for why a line of names is refused
 abbrev pub refusal_text : Unnamed → List ℕ
@@ -107,12 +86,6 @@ program_text (line.Disk fault) = disk_text fault
 program_text line.TwoReadings = codes "? KIND 1 TWO READINGS"
 program_text line.OtherKind = codes "? KIND 2 OTHER KIND"
 program_text line.NothingToRun = codes "? TELETYPE 1 NO WORD"
-program_text (line.Halted cell ac l) = halted_text cell ac l
-program_text (line.HaltedWithMq cell ac l mq) = halted_with_mq_text cell ac l mq
-program_text (line.Unassigned cell word) = codes "UNASSIGNED " ++ octal5 cell ++ codes " " ++ octal4 word
-program_text (line.KeysEnd cell) = codes "KEYS END " ++ octal5 cell
-program_text (line.Limit cell) = codes "LIMIT " ++ octal5 cell
-program_text (line.Steps ended cell) = steps_text ended cell
 program_text (line.Start cell) = codes "START " ++ octal5 cell
 program_text (line.Core fault) = core_text fault
 program_text (line.Rim fault) = rim_text fault

@@ -1,7 +1,7 @@
 //! Why a tape has no source.
 
-use script8::SessionFault;
-use source_names::LineRefusal;
+use pal_faults::LineRefusal;
+use refusals::SessionFault;
 use word12::Cell;
 
 /// Why a tape has no source.

@@ -1,20 +1,19 @@
-ghost use Rattle.std.specs.Prelude.{◌≡◌, ◌+◌, ◌≤◌, ◌++◌, codes, decimal, length, OnOk, OnErr, IsOk, IsOkUnless, vec_len, vec_capacity};
+ghost use Rattle.std.specs.Prelude.{◌≡◌, ◌+◌, ◌≤◌, ◌++◌, codes, decimal, length, OnOk, OnErr, IsOk, vec_len, vec_capacity};
 ghost use Rattle.arrayvec.specs.ArrayVec.{array_vec_len};
 ghost use Rattle.word12.specs.Octal.{octal5};
 ghost use Rattle.name_spelling.specs.Spelling.{text_of};
-ghost use Rattle.program_reports.specs.Program.{program_line, program_text, disk_text, image_text, halted_text, core_text, frame_text, names_text, steps_text, why_text};
+ghost use Rattle.program_reports.specs.Program.{program_line, program_text, disk_text, image_text, core_text, frame_text, names_text};
 ghost use Rattle.program_reports.specs.Program as spec;
-ghost use Rattle.script8.specs.declared.faults.SessionFault.TheVariants.{Memory};
 
 use core_image::CoreFault;
 use disk_layouts::DiskFault;
 use name_spelling::put_spelled;
 use os8_dir::{DirFault, Name};
+use pal_faults::LineRefusal as Unnamed;
+use refusals::put_directory_fault;
+use refusals::text_lines::{TextLine, put, put_number};
 use rim_tape::RimFault;
-use script8::text_lines::{TextLine, put, put_number};
-use script8::{SessionFault, put_directory_fault};
-use source_names::LineRefusal as Unnamed;
-use terminal8::{Ended, TerminalEnd};
+use std::alloc::AllocError;
 use volume_image::ImageFault;
 use word12::{Cell, Word};
 
@@ -96,24 +95,6 @@ pub enum ProgramLine {
     /// The tape gives no cell a word, so there is nothing to run.
     NothingToRun,
 
-    /// An 8/I at a terminal halted before this cell, with this AC and L.
-    Halted(Cell, Word, u8),
-
-    /// An 8/E at a terminal halted before this cell, with this AC, L and MQ.
-    HaltedWithMq(Cell, Word, u8, Word),
-
-    /// A machine at a terminal met a word in a cell that is unassigned.
-    Unassigned(Cell, Word),
-
-    /// No key is left for a machine at a terminal that waits for one at this cell.
-    KeysEnd(Cell),
-
-    /// A machine at a terminal made as many steps as it was to make, up to this cell.
-    Limit(Cell),
-
-    /// A machine at a terminal went so far, up to this cell.
-    Steps(Ended, Cell),
-
     /// The program of a core image starts at this cell.
     Start(Cell),
 
@@ -131,17 +112,15 @@ pub enum ProgramLine {
 }
 
 /// Appends a line of the program. Where the vector has room for 80 bytes, no memory is taken.
-pub fn put_program(line: &ProgramLine, out: &mut Vec<u8>) -> Result<(), SessionFault>
+pub fn put_program(line: &ProgramLine, out: &mut Vec<u8>) -> Result<(), AllocError>
     ensures ok { OnOk result (out.new.items ≡ out.old.items ++ program_line line.now) }
     ensures err { OnErr result (out.new.items ≡ out.old.items) }
     ensures room { vec_len out.old + 80 ≤ vec_capacity out.old → IsOk result }
-    ensures memory { IsOkUnless result Memory }
 {
     let mut text = TextLine::new();
     put_line(&mut text, *line);
     put(&mut text, b"\n");
-    out.extend_from_slice(text.as_slice())?;
-    Ok(())
+    out.extend_from_slice(text.as_slice())
 }
 
 /// Puts the text of a line into an empty one.
@@ -203,27 +182,6 @@ fn put_line(text: &mut TextLine, line: ProgramLine)
         ProgramLine::TwoReadings => put(text, b"? KIND 1 TWO READINGS"),
         ProgramLine::OtherKind => put(text, b"? KIND 2 OTHER KIND"),
         ProgramLine::NothingToRun => put(text, b"? TELETYPE 1 NO WORD"),
-        ProgramLine::Halted(cell, ac, l) => put_halted(text, cell, ac, l),
-        ProgramLine::HaltedWithMq(cell, ac, l, mq) => {
-            put_halted(text, cell, ac, l);
-            put(text, b" MQ ");
-            put(text, &mq.octal4());
-        }
-        ProgramLine::Unassigned(cell, word) => {
-            put(text, b"UNASSIGNED ");
-            put_cell(text, cell);
-            put(text, b" ");
-            put(text, &word.octal4());
-        }
-        ProgramLine::KeysEnd(cell) => {
-            put(text, b"KEYS END ");
-            put_cell(text, cell);
-        }
-        ProgramLine::Limit(cell) => {
-            put(text, b"LIMIT ");
-            put_cell(text, cell);
-        }
-        ProgramLine::Steps(ended, cell) => put_steps(text, ended, cell),
         ProgramLine::Start(cell) => {
             put(text, b"START ");
             put_cell(text, cell);
@@ -269,47 +227,6 @@ fn disk_words(fault: DiskFault) -> &'static [u8]
         DiskFault::TooLong => b"? DISK 1 TOO LONG",
         DiskFault::NoTape => b"? DISK 2 NO DECTAPE",
         DiskFault::Memory => b"? 10 MEMORY",
-    }
-}
-
-/// Puts where a machine halted, with its AC and L, into an empty line.
-fn put_halted(text: &mut TextLine, cell: Cell, ac: Word, l: u8)
-    requires { array_vec_len text.old ≡ 0 }
-    ensures text { text.new.items ≡ text.old.items ++ halted_text cell ac l }
-    ensures short { array_vec_len text.new ≤ 40 }
-{
-    put(text, b"HALT ");
-    put_cell(text, cell);
-    put(text, b" AC ");
-    put(text, &ac.octal4());
-    put(text, b" L ");
-    put(text, &[b'0' + l % 8]);
-}
-
-/// Puts how far a machine went, and why no further, into an empty line.
-fn put_steps(text: &mut TextLine, ended: Ended, cell: Cell)
-    requires { array_vec_len text.old ≡ 0 }
-    ensures text { text.new.items ≡ text.old.items ++ steps_text ended cell }
-    ensures short { array_vec_len text.new ≤ 60 }
-{
-    put(text, b"STEPS ");
-    put_number(text, ended.steps);
-    put(text, b" ");
-    put(text, word_of(ended.why));
-    put(text, b" ");
-    put_cell(text, cell);
-}
-
-/// The word for why a machine goes no further.
-fn word_of(why: TerminalEnd) -> &'static [u8]
-    ensures word { result.now ≡ why_text why }
-    ensures short { length result.now ≤ 10 }
-{
-    match why {
-        TerminalEnd::Halt => b"HALT",
-        TerminalEnd::Unassigned => b"UNASSIGNED",
-        TerminalEnd::Keys => b"KEYS",
-        TerminalEnd::Limit => b"LIMIT",
     }
 }
 

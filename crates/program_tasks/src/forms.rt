@@ -1,5 +1,5 @@
 //! What is asked of the files of volumes.
-use char_pack::{GetForm, PutForm};
+use archive_files::{Asked, GetForm};
 use disk_layouts::Layout;
 use word12::Word;
 
@@ -41,16 +41,6 @@ pub struct CreateForm {
 
     /// How many seconds are waited where another program holds the file, 0 to 3600.
     pub wait: usize,
-}
-
-/// Which file of a volume is meant.
-#[derive(Drop)]
-pub enum FileForm {
-    /// The file of this name.
-    Name(String),
-
-    /// The file whose first block this is, 0 to 4095.
-    At(usize),
 }
 
 /// Which files are texts, where several are got or put.
@@ -118,39 +108,17 @@ pub struct BlocksForm {
     pub form: GetForm,
 }
 
-/// What a file of the host is put as, under a name that is given.
+/// Which files of the host are put, and what they become.
 #[derive(Drop)]
-pub struct PutOneForm {
-    pub image: ImageForm,
-
-    /// The file of the host; `-` is standard input.
-    pub file: String,
-
-    /// Its name on the volume.
-    pub name: String,
-
-    pub form: PutForm,
-
-    /// Its information words, if any are given.
-    pub info: Option<Vec<Word>>,
-
-    /// The year of the date that is given, if one is.
-    pub year: Option<usize>,
-
-    /// Whether it is dated by the day on which the file of the host was last changed.
-    pub is_dated: bool,
-
-    /// Whether an empty input may replace a file that has words.
-    pub may_empty: bool,
-}
-
-/// Which files of the host are put, under their own names.
-#[derive(Drop)]
-pub struct PutManyForm {
+pub struct PutFilesForm {
     pub image: ImageForm,
 
     /// Their names, at least one.
     pub files: Vec<String>,
+
+    /// The name on the volume of the one file that is put, if it is given. Then `-` is standard input, and the file's own name is not printed where
+    /// it is refused. Else each file is put under its own name.
+    pub name: Option<String>,
 
     pub texts: TextsForm,
 
@@ -198,7 +166,7 @@ pub struct ListForm {
 #[derive(Drop)]
 pub struct CopyForm {
     pub image: ImageForm,
-    pub file: FileForm,
+    pub file: Asked,
 
     /// The volume that gets it.
     pub to: ImageForm,

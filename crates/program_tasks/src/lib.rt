@@ -9,8 +9,8 @@ mod tasks;
 
 pub use archives::{BlockSpan, IndexForm, LineForm, PatchForm, RescueForm, ScanForm};
 pub use forms::{
-    BlocksForm, CheckForm, CopyForm, CopyManyForm, CreateForm, DeleteForm, FileForm, GetManyForm,
-    GetTextsForm, ImageForm, ListForm, PutManyForm, PutOneForm, TapeForm, TextsForm,
+    BlocksForm, CheckForm, CopyForm, CopyManyForm, CreateForm, DeleteForm, GetManyForm,
+    GetTextsForm, ImageForm, ListForm, PutFilesForm, TapeForm, TextsForm,
 };
 pub use names::volume_named;
 pub use tasks::{

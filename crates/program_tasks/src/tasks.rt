@@ -1,10 +1,10 @@
 //! The tasks, and the forms of those that run scripts, sources and tapes.
 use crate::archives::{BlockSpan, IndexForm, PatchForm, RescueForm, ScanForm};
 use crate::forms::{
-    BlocksForm, CheckForm, CopyForm, CopyManyForm, CreateForm, DeleteForm, FileForm, GetManyForm,
-    GetTextsForm, ImageForm, ListForm, PutManyForm, PutOneForm, TapeForm,
+    BlocksForm, CheckForm, CopyForm, CopyManyForm, CreateForm, DeleteForm, GetManyForm,
+    GetTextsForm, ImageForm, ListForm, PutFilesForm, TapeForm,
 };
-use char_pack::GetForm;
+use archive_files::{Asked, GetForm};
 use word12::{Cell, Word};
 
 /// When a run of a script writes the image, if the script changed it.
@@ -186,10 +186,10 @@ pub enum Task {
     ListSome(ListForm),
 
     /// Write what the file has, on this volume.
-    Get(ImageForm, FileForm, GetForm),
+    Get(ImageForm, Asked, GetForm),
 
     /// Write the BIN tape of the core image that the file is, on this volume.
-    GetBin(ImageForm, FileForm),
+    GetBin(ImageForm, Asked),
 
     /// Write files of a volume to a folder.
     GetMany(GetManyForm),
@@ -200,17 +200,14 @@ pub enum Task {
     /// Write what blocks of a volume have.
     GetBlocks(BlocksForm),
 
-    /// Make a file of the host, or standard input, a file of a volume with a given name.
-    Put(PutOneForm),
-
-    /// Make files of the host files of a volume.
-    PutMany(PutManyForm),
+    /// Make files of the host, or standard input, files of a volume.
+    Put(PutFilesForm),
 
     /// Take files out of a volume.
     Delete(DeleteForm),
 
     /// Give the file this name, on this volume.
-    Rename(ImageForm, FileForm, String),
+    Rename(ImageForm, Asked, String),
 
     /// Copy a file from volume to volume.
     Copy(CopyForm),

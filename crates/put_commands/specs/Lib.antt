@@ -1,5 +1,3 @@
 pub mod NameSteps
-pub mod PutManySteps
 pub mod PutSteps
 pub mod Putting
-pub mod PuttingMany

@@ -4,7 +4,7 @@ use Rattle.std.specs.Ordering.{nat_cmp}
 use Rattle.std.specs.BTreeSet.{BTreeSet}
 use Rattle.std.specs.BTreeSet as set
 use Rattle.archive_many.specs.declared.putting.NewFile.{NewFile}
-use Rattle.put_commands.specs.PuttingMany.{has_name}
+use Rattle.put_commands.specs.Putting.{has_name}
 
 -- a number is in a set
 abbrev pub has_key : BTreeSet ℕ → ℕ → Bool

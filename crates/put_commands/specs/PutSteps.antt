@@ -1,36 +1,25 @@
--- What steps of putting do. No contract of a public function cites these.
-use Rattle.std.specs.Prelude.{◌≡◌, ◌⊎◌, ℕ, Bool, true, false, Result, Ok, Err, List, ◌∷◌, length}
-use Rattle.std.specs.Global.{Vec}
-use Rattle.hosts.specs.Event.{Event, tell_call}
-use Rattle.os8_dir.specs.declared.file_faults.FileFault.TheVariants.{NothingWritten}
-use Rattle.script8.specs.declared.faults.SessionFault.TheVariants.{Memory, File}
-use Rattle.archive_files.specs.declared.faults.ArchiveFault.{ArchiveFault}
-use Rattle.archive_many.specs.Emptying.{is_among}
-use Rattle.archive_many.specs.Opened.{OpensVolume, files_on}
-use Rattle.archive_many.specs.declared.opened.VolumeFile.{VolumeFile}
-use Rattle.outcome.specs.Notes.{name_text}
-use Rattle.outcome.specs.declared.notes.NameNote.TheVariants.{Empty}
+-- What steps of putting files do. No contract of a public function cites these.
+use Rattle.std.specs.Prelude.{◌≡◌, ◌⊎◌, ℕ, List, slice_get}
+use Rattle.hosts.specs.Event.{Event}
+use Rattle.refusals.specs.declared.faults.SessionFault.{SessionFault}
+use Rattle.refusals.specs.declared.faults.SessionFault.TheVariants.{Memory}
+use Rattle.archive_many.specs.declared.faults.ManyFault.{ManyFault}
+use Rattle.archive_many.specs.declared.putting.NewFile.{NewFile}
 use Rattle.outcome.specs.declared.endings.Ending.{Ending}
 use Rattle.outcome.specs.declared.endings.Ending.TheVariants.{Fault}
-use Rattle.image_files.specs.Answers.{Refuses}
-use Rattle.put_commands.specs.Putting.{TellsRefusal}
+use Rattle.image_files.specs.Stored.{is_bad}
+use Rattle.put_commands.specs.Putting.{RefusesMany, TellsPath, TellsText, WantsMemory}
 
--- the volume is refused, or memory is wanted for its files
-abbrev pub HasNoFiles : List ℕ → List Event → Ending → List Event → Type 0
-HasNoFiles image old ending new = ((fault : ArchiveFault) × OpensVolume image (Err fault) × Refuses fault (length image) old ending new)
+-- why no file is put; where memory is wanted for what is printed, that
+abbrev pub IsNotPut : List (List ℕ) → List NewFile → ManyFault → ℕ → List Event → Ending → List Event → Type 0
+IsNotPut paths files fault size old ending new = RefusesMany paths files fault size old ending new ⊎ WantsMemory paths fault old ending new
+
+-- the text at a place is refused, if it is one
+abbrev pub IsTextRefused : List NewFile → ℕ → SessionFault → List Event → Ending → List Event → Type 0
+IsTextRefused files place fault old ending new = ((ending ≡ Fault fault) × TellsText (is_bad fault) (slice_get files place) old new)
     ⊎ ((ending ≡ Fault Memory) × (new ≡ old))
 
-abbrev pub FindsFiles : List ℕ → List Event → Result (Vec VolumeFile) Ending → List Event → Type 0
-FindsFiles image old (Ok files) new = (blocks : List (List ℕ)) × OpensVolume image (Ok blocks) × (files.items ≡ files_on blocks) × (new ≡ old)
-FindsFiles image old (Err ending) new = HasNoFiles image old ending new
-
--- whether the volume has a file of a name, which is refused then
-abbrev pub RefusesLoss : List ℕ → ℕ → List ℕ → List Event → Result (Unit {0}) Ending → List Event → Type 0
-RefusesLoss path name image old (Ok it) new = (blocks : List (List ℕ)) × OpensVolume image (Ok blocks) × (is_among name (files_on blocks) ≡ false) × (new ≡ old)
-RefusesLoss path name image old (Err ending) new =
-    ((blocks : List (List ℕ)) × OpensVolume image (Ok blocks) × (is_among name (files_on blocks) ≡ true) × (ending ≡ Fault (File NothingWritten)) × (ok : Bool) × (new ≡ tell_call ok (name_text Empty path) ∷ old))
-    ⊎ HasNoFiles image old ending new
-
--- why a file is not put; where memory is wanted for the note, that
-abbrev pub IsNotPut : ArchiveFault → List ℕ → ℕ → List Event → Ending → List Event → Type 0
-IsNotPut fault bytes size old ending new = TellsRefusal fault bytes size old ending new ⊎ ((ending ≡ Fault Memory) × (new ≡ old))
+-- the file at a place is refused
+abbrev pub IsFileRefused : List (List ℕ) → List NewFile → ℕ → SessionFault → List Event → Ending → List Event → Type 0
+IsFileRefused paths files place fault old ending new = ((ending ≡ Fault fault) × (between : List Event) × TellsPath (slice_get paths place) old between × TellsText (is_bad fault) (slice_get files place) between new)
+    ⊎ ((ending ≡ Fault Memory) × ((new ≡ old) ⊎ TellsPath (slice_get paths place) old new))

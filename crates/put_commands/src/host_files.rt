@@ -1,38 +1,42 @@
-//! Files of the host that are to be put under their own names.
-ghost use Rattle.std.specs.Prelude.{◌≡◌, ◌⊎◌, ◌||◌, List, [], ◌∷◌, ◌++◌, not, nat_eq, map, ℕ, IfOk, OnOk};
-ghost use Rattle.script8.specs.declared.faults.SessionFault.TheVariants.{Memory};
+//! Files of the host that are to be put, each under its own name or one under a name that is given.
+ghost use Rattle.std.specs.Prelude.{◌≡◌, ◌⊎◌, ◌||◌, List, [], ◌∷◌, ◌++◌, not, nat_eq, map, option_map, ℕ, IfOk, OnOk};
+ghost use Rattle.refusals.specs.declared.faults.SessionFault.TheVariants.{Memory};
 ghost use Rattle.outcome.specs.declared.endings.Ending.TheVariants.{Fault};
 ghost use Rattle.archive_many.specs.declared.putting.NewFile.{NewFile as AsNew};
-ghost use Rattle.put_commands.specs.PuttingMany.{DatesNext, LooksWhole, MakesFile, ReadsEach, ReadsNext, RefusesName, RefusesPath, TakesName, TellsUnread};
+ghost use Rattle.image_files.specs.Inputs.{ReadsIf};
+ghost use Rattle.name_spelling.specs.Reading.{typed_name};
+ghost use Rattle.put_commands.specs.Putting.{DatesNext, MakesFile, Names, ReadsEach, ReadsNext, ReadsWhole, RefusesName, RefusesPath, TakesName, TellsUnread, is_input, name_or_zeros};
 ghost use Rattle.put_commands.specs.NameSteps.{KnowsNames, has_key};
 
 use archive_many::{NewFile, volume_name};
 use asked_files::{note_put, put_form};
 use hosts::Host;
-use image_files::{FileDay, date_of_file, look_file, tell_note, word_of_day, year_of_day};
+use image_files::{
+    FileDay, date_of_file, given_bytes, look_file, tell_note, word_of_day, year_of_day,
+};
+use name_spelling::typed_name;
 use os8_dir::{FileFault, Name};
 use outcome::{Ending, NameNote, Note, PlainNote};
 use program_reports::ProgramLine;
-use program_tasks::TextsForm;
-use script8::SessionFault;
+use program_tasks::{PutFilesForm, TextsForm};
+use refusals::SessionFault;
 use std::alloc::{AllocError, Global};
 use std::collections::BTreeSet;
+use word12::Word;
 
-/// The files of these paths, which are read in their order.
+/// The files that are asked for, which are read in their order.
 pub(crate) fn read_files<H: Host>(
     host: &mut H,
     alloc: Global,
-    texts: &TextsForm,
-    is_dated: bool,
-    paths: &[String],
+    form: &PutFilesForm,
 ) -> Result<Vec<NewFile>, Ending>
-    ensures { ReadsEach texts.now is_dated [] (map (λ path. path.bytes.items) paths.now) (H.history host.old) result (H.history host.new) }
+    ensures { ReadsEach form.now [] (map (λ path. path.bytes.items) form.now.files.items) (H.history host.old) result (H.history host.new) }
 {
     let mut files = Vec::new(alloc);
     let mut names = BTreeSet::new(alloc);
-    let mut rest = paths;
+    let mut rest = form.files.as_slice();
     while let [path, others @ ..] = rest {
-        let file = read_next(host, alloc, texts, is_dated, path.as_str(), &mut names)?;
+        let file = read_next(host, alloc, form, path.as_str(), &mut names)?;
         add(&mut files, file)?;
         rest = others;
     }
@@ -50,19 +54,18 @@ fn add(files: &mut Vec<NewFile>, file: NewFile) -> Result<(), AllocError>
 fn read_next<H: Host>(
     host: &mut H,
     alloc: Global,
-    texts: &TextsForm,
-    is_dated: bool,
+    form: &PutFilesForm,
     path: &str,
     names: &mut BTreeSet<u64>,
 ) -> Result<NewFile, Ending>
     ensures reads { (files : List AsNew) → KnowsNames names.old files
-        → ReadsNext texts.now is_dated files path.now (H.history host.old) result (H.history host.new) }
+        → ReadsNext form.now files path.now (H.history host.old) result (H.history host.new) }
     ensures names { IfOk result (λ file. (q : ℕ) → has_key names.new q ≡ (has_key names.old q || nat_eq file.name q)) }
 {
-    let name = take_name(host, alloc, path, names)?;
-    let bytes = look_whole(host, alloc, path)?;
-    let day = date_next(host, alloc, path, is_dated)?;
-    new_file(host, alloc, texts, path, name, bytes, &day)
+    let name = take_name(host, alloc, &form.name, path, names)?;
+    let bytes = read_whole(host, alloc, &form.name, path)?;
+    let day = date_next(host, alloc, &form.name, path, form.is_dated)?;
+    new_file(host, alloc, &form.texts, path, name, bytes, &day)
 }
 
 /// The file of a path that has this name, these bytes and the date of a day, if there is one. It is printed where it is put as frames, and others as texts.
@@ -87,24 +90,45 @@ fn new_file<H: Host>(
     })
 }
 
-/// The name that a path gives a file, which is none of those that are known. It is known from then on.
+/// The name of a file on the volume, which is none of those that are known. It is known from then on.
 fn take_name<H: Host>(
     host: &mut H,
     alloc: Global,
+    given: &Option<String>,
     path: &str,
     names: &mut BTreeSet<u64>,
 ) -> Result<Name, Ending>
     ensures takes { (files : List AsNew) → KnowsNames names.old files
-        → TakesName files path.now (H.history host.old) result (H.history host.new) }
+        → TakesName (option_map (λ name. name.bytes.items) given.now) files path.now (H.history host.old) result (H.history host.new) }
     ensures names { IfOk result (λ name. (q : ℕ) → has_key names.new q ≡ (has_key names.old q || nat_eq name q)) }
 {
-    let Some(name) = volume_name(path.as_bytes()) else {
+    let Some(name) = name_for(given, path) else {
         return Err(refuse_path(host, alloc, path));
     };
     if add_name(names, name)? {
         return Ok(name);
     }
     Err(refuse_name(host, alloc, path))
+}
+
+/// The name of a file on the volume: the one that is given, or else that of its path, if that spells one.
+fn name_for(given: &Option<String>, path: &str) -> Option<Name>
+    ensures { Names (option_map (λ name. name.bytes.items) given.now) path.now result }
+{
+    match given {
+        Some(text) => Some(name_typed(text.as_str())),
+        None => volume_name(path.as_bytes()),
+    }
+}
+
+/// The name that a text spells, or where it spells none the one of zeros, which no file of a volume has.
+fn name_typed(text: &str) -> Name
+    ensures { result ≡ name_or_zeros (typed_name text.now) }
+{
+    match typed_name(text.as_bytes()) {
+        Some(name) => name,
+        None => Name::of([Word::ZERO, Word::ZERO, Word::ZERO, Word::ZERO]),
+    }
 }
 
 /// Adds a name to those that are known, and answers whether it is new.
@@ -151,37 +175,68 @@ fn refuse_name<H: Host>(host: &mut H, alloc: Global, path: &str) -> Ending
     }
 }
 
-/// All bytes of the file of a path. Where it is not read, the path is printed.
-fn look_whole<H: Host>(host: &mut H, alloc: Global, path: &str) -> Result<Vec<u8>, Ending>
-    ensures { LooksWhole path.now (H.history host.old) result (H.history host.new) }
+/// All bytes of the file of a path, or of standard input. Where they are not read, the path is printed of a file that gets its own name.
+fn read_whole<H: Host>(
+    host: &mut H,
+    alloc: Global,
+    given: &Option<String>,
+    path: &str,
+) -> Result<Vec<u8>, Ending>
+    ensures { ReadsWhole (option_map (λ name. name.bytes.items) given.now) path.now (H.history host.old) result (H.history host.new) }
 {
-    match look_file(host, alloc, path) {
+    match bytes_of(host, alloc, given, path) {
         Ok(bytes) => Ok(bytes),
-        Err(ending) => Err(tell_unread(host, alloc, path, ending)),
+        Err(ending) => Err(tell_unread(host, alloc, given, path, ending)),
     }
 }
 
-/// The day on which the file of a path was last changed, where that is asked for. Where it is not known, the path is printed.
+/// All bytes of the file of a path, or of standard input, for which `-` stands where a name is given.
+fn bytes_of<H: Host>(
+    host: &mut H,
+    alloc: Global,
+    given: &Option<String>,
+    path: &str,
+) -> Result<Vec<u8>, Ending>
+    ensures { ReadsIf (is_input (option_map (λ name. name.bytes.items) given.now) path.now) path.now (H.history host.old) result (H.history host.new) }
+{
+    match given {
+        Some(_) => given_bytes(host, alloc, path),
+        None => look_file(host, alloc, path),
+    }
+}
+
+/// The day on which the file of a path was last changed, where that is asked for. Where it is not known, the path is printed of a file that gets its
+/// own name.
 fn date_next<H: Host>(
     host: &mut H,
     alloc: Global,
+    given: &Option<String>,
     path: &str,
     is_dated: bool,
 ) -> Result<Option<FileDay>, Ending>
-    ensures { DatesNext is_dated path.now (H.history host.old) result (H.history host.new) }
+    ensures { DatesNext (option_map (λ name. name.bytes.items) given.now) is_dated path.now (H.history host.old) result (H.history host.new) }
 {
     match date_of_file(host, alloc, path, is_dated) {
         Ok(day) => Ok(day),
-        Err(why) => Err(tell_unread(host, alloc, path, why)),
+        Err(why) => Err(tell_unread(host, alloc, given, path, why)),
     }
 }
 
-/// How the command ends where a file is not read for this. Its path is printed.
-fn tell_unread<H: Host>(host: &mut H, alloc: Global, path: &str, ending: Ending) -> Ending
-    ensures { TellsUnread path.now ending (H.history host.old) result (H.history host.new) }
+/// How the command ends where a file is not read for this. Its path is printed, unless a name is given.
+fn tell_unread<H: Host>(
+    host: &mut H,
+    alloc: Global,
+    given: &Option<String>,
+    path: &str,
+    ending: Ending,
+) -> Ending
+    ensures { TellsUnread (option_map (λ name. name.bytes.items) given.now) path.now ending (H.history host.old) result (H.history host.new) }
 {
-    match tell_note(host, alloc, Note::OnName(NameNote::NotPut, path)) {
-        Ok(()) => ending,
-        Err(error) => Ending::from(error),
+    match given {
+        Some(_) => ending,
+        None => match tell_note(host, alloc, Note::OnName(NameNote::NotPut, path)) {
+            Ok(()) => ending,
+            Err(error) => Ending::from(error),
+        },
     }
 }

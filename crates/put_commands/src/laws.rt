@@ -1,9 +1,9 @@
-//! What a `put` of several files leaves as it was, as a law.
-ghost use Rattle.program_tasks.specs.declared.forms.PutManyForm.{PutManyForm as PutMany};
+//! What a refused `put` leaves as it was, as a law.
+ghost use Rattle.program_tasks.specs.declared.forms.PutFilesForm.{PutFilesForm as Form};
 ghost use Rattle.image_files.specs.Laws.{LeavesFiles};
-ghost use Rattle.put_commands.specs.PuttingMany.{PutsMany};
+ghost use Rattle.put_commands.specs.Putting.{Puts};
 
-/// A command that is to put several files, and is refused, has changed no file: none is put.
+/// A command that is to put files, and is refused, has changed no file: none is put.
 pub fn refused_puts()
-    ensures { (form : PutMany) → LeavesFiles (PutsMany form) }
+    ensures { (form : Form) → LeavesFiles (Puts form) }
 {}

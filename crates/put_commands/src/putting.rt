@@ -1,137 +1,143 @@
-//! The command that puts a file of the host, or standard input, on the volume in an image file.
-ghost use Rattle.std.specs.Prelude.{◌≡◌, option_copied, OnOk, OnErr};
-ghost use Rattle.archive_files.specs.Putting.{PutsFile};
-ghost use Rattle.archive_many.specs.Putting.{info_or, info_words, given_count, words_wanted};
-ghost use Rattle.image_files.specs.Stored as spec;
-ghost use Rattle.put_commands.specs.Putting.{JudgesInfo, JudgesPut, NotesDate, Puts, PutsInto, KeepsWords, MakesNew};
-ghost use Rattle.image_files.specs.Stored.{TellsBad, stored_line, words_of};
-ghost use Rattle.put_commands.specs.PutSteps.{RefusesLoss, FindsFiles, IsNotPut};
+//! The command that puts files of the host on the volume in an image file, which is written once, and only once the whole new image stands in
+//! memory.
+ghost use Rattle.std.specs.Prelude.{◌≡◌, ◌++◌, false, true, map, option_copied, slice_get, OnOk, OnErr};
+ghost use Rattle.outcome.specs.declared.endings.Ending.TheVariants.{Fault};
+ghost use Rattle.archive_many.specs.Putting.{given_count, info_words, larger_of, most_wanted, words_wanted};
+ghost use Rattle.image_files.specs.Answers.{AreLines};
+ghost use Rattle.image_files.specs.Stored as put_spec;
+ghost use Rattle.image_files.specs.Stored.{TellsBad};
+ghost use Rattle.put_commands.specs.Putting as spec;
+ghost use Rattle.put_commands.specs.Putting.{FindsFiles, JudgesInfo, JudgesPut, KeepsIf, KeepsWords, MakesMany, NotesDates, Puts, PutsFiles, RefusesLoss, TellsEmpty, TellsPath, TellsText, loss_from, paths_of, told_paths};
+ghost use Rattle.put_commands.specs.PutSteps.{IsFileRefused, IsNotPut, IsTextRefused};
 
-use archive_files::{ArchiveFault, NewImage, bad_text_at, put};
-use archive_many::{VolumeFile, empties, open};
+use crate::host_files::read_files;
+use archive_files::bad_text_at;
+use archive_many::{ManyFault, ManyImage, NewFile, VolumeFile, empties, open, put_all};
+use asked_files::take_lists;
 use hosts::Host;
 use image_files::{
-    FileDay, Image, date_of_file, given_bytes, note_year, refuse_image, store, stored_line,
-    take_words, tell_note, word_of_day,
+    Image, note_files, note_year, put_stored, refuse_image, store, take_words, tell_note,
 };
-use name_spelling::typed_name;
-use os8_dir::{FileFault, Name};
+use os8_dir::FileFault;
 use outcome::{Ending, NameNote, Note};
-use program_tasks::PutOneForm;
-use script8::SessionFault;
+use program_tasks::PutFilesForm;
+use refusals::SessionFault;
 use std::alloc::{AllocError, Global};
 use word12::Word;
 
-/// Makes a file of the host, or standard input, a file of the volume in an image file, with a name that is given, and reports it.
-pub fn put_file<H: Host>(host: &mut H, alloc: Global, form: &PutOneForm) -> Result<(), Ending>
+/// Makes files of the host files of the volume in an image file, all or none, and reports each.
+pub fn put_files<H: Host>(host: &mut H, alloc: Global, form: &PutFilesForm) -> Result<(), Ending>
     ensures { Puts form.now (H.history host.old) result (H.history host.new) }
 {
+    take_lists(host, alloc, &form.texts)?;
     let image = Image::open(host, alloc, &form.image)?;
-    let bytes = given_bytes(host, alloc, form.file.as_str())?;
-    let day = date_of_file(host, alloc, form.file.as_str(), form.is_dated)?;
-    put_into(host, alloc, form, image, &bytes, &day)
+    let files = read_files(host, alloc, form)?;
+    put_into(host, alloc, form, image, &files)
 }
 
-/// Puts bytes of the host on the volume in an image, and reports it.
+/// Puts these files on the volume in an image.
 fn put_into<H: Host>(
     host: &mut H,
     alloc: Global,
-    form: &PutOneForm,
+    form: &PutFilesForm,
     image: Image,
-    bytes: &[u8],
-    day: &Option<FileDay>,
+    files: &[NewFile],
 ) -> Result<(), Ending>
-    ensures { PutsInto form.now image bytes.now day.now (H.history host.old) result (H.history host.new) }
+    ensures { PutsFiles form.now image files.now (H.history host.old) result (H.history host.new) }
 {
-    judge_put(host, alloc, form, &image.bytes, bytes, day)?;
-    let new = new_image(host, alloc, form, &image.bytes, bytes, word_of_day(day))?;
-    let line = stored_line(alloc, &new)?;
-    store(host, alloc, image, &new.bytes, &line)
+    judge_put(host, alloc, form, files, &image.bytes)?;
+    let new = image_with(host, alloc, form, files, &image.bytes)?;
+    let lines = stored_lines(alloc, files, &new.blocks)?;
+    store(host, alloc, image, &new.bytes, &lines)
 }
 
-/// Refuses what would lose words of an older file, or information words that are given. Then it prints how a date will be shown that is shown otherwise.
+/// Refuses what would lose words of older files, or information words that are given. Then it prints how a date will be shown that is shown otherwise.
 fn judge_put<H: Host>(
     host: &mut H,
     alloc: Global,
-    form: &PutOneForm,
+    form: &PutFilesForm,
+    files: &[NewFile],
     image: &[u8],
-    bytes: &[u8],
-    day: &Option<FileDay>,
 ) -> Result<(), Ending>
-    ensures { JudgesPut form.now image.now bytes.now day.now (H.history host.old) result (H.history host.new) }
+    ensures { JudgesPut form.now files.now image.now (H.history host.old) result (H.history host.new) }
 {
-    keep_words(host, alloc, form, image, bytes)?;
-    judge_info(host, alloc, form, image, day)
+    keep_words(host, alloc, form, files, image)?;
+    judge_info(host, alloc, form, files, image)
 }
 
 /// Refuses information words for which there is no room, and prints how a date will be shown that is shown otherwise.
 fn judge_info<H: Host>(
     host: &mut H,
     alloc: Global,
-    form: &PutOneForm,
+    form: &PutFilesForm,
+    files: &[NewFile],
     image: &[u8],
-    day: &Option<FileDay>,
 ) -> Result<(), Ending>
-    ensures { JudgesInfo form.now image.now day.now (H.history host.old) result (H.history host.new) }
+    ensures { JudgesInfo form.now files.now image.now (H.history host.old) result (H.history host.new) }
 {
-    take_words(host, alloc, image, words_wanted(form, word_of_day(day)))?;
-    note_date(host, alloc, form, image, day)
+    take_words(host, alloc, image, most_wanted(form, files))?;
+    note_dates(host, alloc, form, files, image)
 }
 
-/// Prints how a day of the file, or else a date that is given, will be shown that is shown otherwise.
-fn note_date<H: Host>(
+/// Prints how dates of the files, where these are asked for, or else a date that is given will be shown that are shown otherwise.
+fn note_dates<H: Host>(
     host: &mut H,
     alloc: Global,
-    form: &PutOneForm,
+    form: &PutFilesForm,
+    files: &[NewFile],
     image: &[u8],
-    day: &Option<FileDay>,
 ) -> Result<(), Ending>
-    ensures { NotesDate form.now image.now day.now (H.history host.old) result (H.history host.new) }
+    ensures { NotesDates form.now.is_dated form.now files.now image.now (H.history host.old) result (H.history host.new) }
 {
-    match day {
-        None => note_year(host, alloc, image, info_of(&form.info), form.year),
-        Some(day) => {
-            let year = usize::from(day.year);
-            note_year(host, alloc, image, &[day.word], Some(year))
-        }
+    if form.is_dated {
+        return note_files(host, alloc, image, files);
     }
+    note_year(host, alloc, image, info_of(&form.info), form.year)
 }
 
-/// Refuses a text of no byte that would replace a file of the volume, unless that is asked for.
+/// Refuses files of no byte that would replace files of the volume in an image, unless that is asked for.
 fn keep_words<H: Host>(
     host: &mut H,
     alloc: Global,
-    form: &PutOneForm,
+    form: &PutFilesForm,
+    files: &[NewFile],
     image: &[u8],
-    bytes: &[u8],
 ) -> Result<(), Ending>
-    ensures { KeepsWords form.now image.now bytes.now (H.history host.old) result (H.history host.new) }
+    ensures { KeepsWords form.now files.now image.now (H.history host.old) result (H.history host.new) }
 {
-    if form.may_empty || !bytes.is_empty() {
+    if form.may_empty || !has_empty(files) {
         return Ok(());
     }
-    match typed_name(form.name.as_bytes()) {
-        None => Ok(()),
-        Some(name) => refuse_loss(host, alloc, image, form.file.as_str(), name),
-    }
+    keep_all(host, alloc, form, files, image)
 }
 
-/// Refuses to replace a file of this name of the volume in an image, and says so.
-fn refuse_loss<H: Host>(
+/// Refuses files of no byte that would replace files of the volume in an image, which is read for them once.
+fn keep_all<H: Host>(
     host: &mut H,
     alloc: Global,
+    form: &PutFilesForm,
+    files: &[NewFile],
     image: &[u8],
-    path: &str,
-    name: Name,
 ) -> Result<(), Ending>
-    ensures { RefusesLoss path.now name image.now (H.history host.old) result (H.history host.new) }
+    ensures { KeepsIf false (paths_of form.now) files.now image.now (H.history host.old) result (H.history host.new) }
 {
-    let files = files_on(host, alloc, image)?;
-    if !empties(&files, name, &[]) {
-        return Ok(());
+    let older = files_on(host, alloc, image)?;
+    let loss = loss_in(&older, files);
+    refuse_loss(host, alloc, &form.files, loss)
+}
+
+/// Whether one of these files has no byte.
+fn has_empty(files: &[NewFile]) -> bool
+    ensures { result ≡ spec.has_empty files.now }
+{
+    let mut rest = files;
+    while let [file, others @ ..] = rest {
+        if file.bytes.is_empty() {
+            return true;
+        }
+        rest = others;
     }
-    tell_note(host, alloc, Note::OnName(NameNote::Empty, path))?;
-    Err(Ending::Fault(SessionFault::File(FileFault::NothingWritten)))
+    false
 }
 
 /// The files of the volume in an image.
@@ -147,86 +153,177 @@ fn files_on<H: Host>(host: &mut H, alloc: Global, image: &[u8]) -> Result<Vec<Vo
     }
 }
 
-/// The image with the file.
-fn new_image<H: Host>(
+/// The place of the first file of no byte that would replace one of these, counted from 0.
+fn loss_in(older: &[VolumeFile], files: &[NewFile]) -> Option<usize>
+    ensures { result ≡ loss_from older.now 0 files.now }
+{
+    let mut place: usize = 0;
+    let mut rest = files;
+    while let [file, others @ ..] = rest {
+        if empties(older, file.name, &file.bytes) {
+            return Some(place);
+        }
+        place += 1;
+        rest = others;
+    }
+    None
+}
+
+/// Refuses the file of no byte at this place, if there is one, and prints its path.
+fn refuse_loss<H: Host>(
     host: &mut H,
     alloc: Global,
-    form: &PutOneForm,
-    image: &[u8],
-    bytes: &[u8],
-    date: Option<Word>,
-) -> Result<NewImage, Ending>
-    ensures { MakesNew form.now image.now bytes.now date (H.history host.old) result (H.history host.new) }
+    paths: &[String],
+    loss: Option<usize>,
+) -> Result<(), Ending>
+    ensures { RefusesLoss (map (λ path. path.bytes.items) paths.now) loss (H.history host.old) result (H.history host.new) }
 {
-    match put_dated(alloc, form, image, bytes, date) {
+    match loss {
+        None => Ok(()),
+        Some(place) => match tell_empty(host, alloc, paths, place) {
+            Ok(()) => Err(Ending::Fault(SessionFault::File(FileFault::NothingWritten))),
+            Err(error) => Err(Ending::from(error)),
+        },
+    }
+}
+
+/// Prints the path at a place as that of a file of no byte.
+fn tell_empty<H: Host>(
+    host: &mut H,
+    alloc: Global,
+    paths: &[String],
+    place: usize,
+) -> Result<(), AllocError>
+    ensures told { OnOk result (TellsEmpty (slice_get (map (λ path. path.bytes.items) paths.now) place) (H.history host.old) (H.history host.new)) }
+    ensures wanted { OnErr result (H.history host.new ≡ H.history host.old) }
+{
+    match paths.get(place) {
+        None => Ok(()),
+        Some(path) => tell_note(host, alloc, Note::OnName(NameNote::Empty, path.as_str())),
+    }
+}
+
+/// The image with these files.
+fn image_with<H: Host>(
+    host: &mut H,
+    alloc: Global,
+    form: &PutFilesForm,
+    files: &[NewFile],
+    image: &[u8],
+) -> Result<ManyImage, Ending>
+    ensures { MakesMany form.now files.now image.now (H.history host.old) result (H.history host.new) }
+{
+    match put_all(alloc, image, files, given_words(&form.info)) {
         Ok(new) => Ok(new),
-        Err(fault) => Err(refuse_put(host, alloc, image.len(), bytes, fault)),
+        Err(fault) => Err(refuse_many(host, alloc, paths_told(form), files, image.len(), fault)),
     }
 }
 
-/// The image with the file, whose information word is that of its date, or else those that are given.
-fn put_dated(
-    alloc: Global,
-    form: &PutOneForm,
-    image: &[u8],
-    bytes: &[u8],
-    date: Option<Word>,
-) -> Result<NewImage, ArchiveFault>
-    ensures { PutsFile image.now form.now.name.bytes.items form.now.form bytes.now (info_or date (words_of form.now.info)) result }
+/// The paths that are printed where a file is not put: none where a name is given, which gets the only file.
+fn paths_told(form: &PutFilesForm) -> &[String]
+    ensures { map (λ path. path.bytes.items) result.now ≡ told_paths form.now }
 {
-    let name = form.name.as_bytes();
-    match date {
-        Some(word) => put(alloc, image, name, bytes, form.form, Some(&[word])),
-        None => put(
-            alloc,
-            image,
-            name,
-            bytes,
-            form.form,
-            given_words(&form.info),
-        ),
+    match &form.name {
+        Some(_) => &[],
+        None => form.files.as_slice(),
     }
 }
 
-/// How the command ends if its file is refused, or its image of so many bytes. What may help is printed.
-fn refuse_put<H: Host>(
+/// How the command ends if a file of it is refused, or its image of so many bytes. What may help is printed.
+fn refuse_many<H: Host>(
     host: &mut H,
     alloc: Global,
+    paths: &[String],
+    files: &[NewFile],
     size: usize,
-    bytes: &[u8],
-    fault: ArchiveFault,
+    fault: ManyFault,
 ) -> Ending
-    ensures { IsNotPut fault bytes.now size (H.history host.old) result (H.history host.new) }
+    ensures { IsNotPut (map (λ path. path.bytes.items) paths.now) files.now fault size (H.history host.old) result (H.history host.new) }
 {
-    if !is_bad_text(&fault) {
-        return refuse_image(host, size, fault);
+    match fault {
+        ManyFault::Archive(fault) => refuse_image(host, size, fault),
+        ManyFault::File(place, fault) => refuse_file(host, alloc, paths, files, place, fault),
     }
-    match tell_bad_text(host, alloc, bytes) {
-        Ok(()) => Ending::from(fault),
+}
+
+/// How it ends where the file at a place is refused.
+fn refuse_file<H: Host>(
+    host: &mut H,
+    alloc: Global,
+    paths: &[String],
+    files: &[NewFile],
+    place: usize,
+    fault: SessionFault,
+) -> Ending
+    ensures { IsFileRefused (map (λ path. path.bytes.items) paths.now) files.now place fault (H.history host.old) result (H.history host.new) }
+{
+    match tell_path(host, alloc, paths, place) {
+        Ok(()) => refuse_text(host, alloc, files, place, fault),
+        Err(error) => Ending::from(error),
+    }
+}
+
+/// Prints the path at a place as that of a file that is not put.
+fn tell_path<H: Host>(
+    host: &mut H,
+    alloc: Global,
+    paths: &[String],
+    place: usize,
+) -> Result<(), AllocError>
+    ensures told { OnOk result (TellsPath (slice_get (map (λ path. path.bytes.items) paths.now) place) (H.history host.old) (H.history host.new)) }
+    ensures wanted { OnErr result (H.history host.new ≡ H.history host.old) }
+{
+    match paths.get(place) {
+        None => Ok(()),
+        Some(path) => tell_note(host, alloc, Note::OnName(NameNote::NotPut, path.as_str())),
+    }
+}
+
+/// How it ends where the file at a place is refused for this. Of a text it is printed where it has a byte that may not stand in one.
+fn refuse_text<H: Host>(
+    host: &mut H,
+    alloc: Global,
+    files: &[NewFile],
+    place: usize,
+    fault: SessionFault,
+) -> Ending
+    ensures { IsTextRefused files.now place fault (H.history host.old) result (H.history host.new) }
+{
+    if !is_bad(&fault) {
+        return Ending::Fault(fault);
+    }
+    match tell_text(host, alloc, files, place) {
+        Ok(()) => Ending::Fault(fault),
         Err(error) => Ending::from(error),
     }
 }
 
 /// Whether a text is refused.
-fn is_bad_text(fault: &ArchiveFault) -> bool
-    ensures { result ≡ spec.is_bad_text fault.now }
+fn is_bad(fault: &SessionFault) -> bool
+    ensures { result ≡ put_spec.is_bad fault.now }
 {
     match fault {
-        ArchiveFault::Image(_) | ArchiveFault::Directory(_) => false,
-        ArchiveFault::Refused(why) => is_bad(*why),
-    }
-}
-
-fn is_bad(why: SessionFault) -> bool
-    ensures { result ≡ spec.is_bad why }
-{
-    match why {
         SessionFault::BadText => true,
         _ => false,
     }
 }
 
-/// Prints where a text that can't be put has the first byte that may not stand in one.
+/// Prints where the text at a place has the first byte that may not stand in one.
+fn tell_text<H: Host>(
+    host: &mut H,
+    alloc: Global,
+    files: &[NewFile],
+    place: usize,
+) -> Result<(), AllocError>
+    ensures told { OnOk result (TellsText true (slice_get files.now place) (H.history host.old) (H.history host.new)) }
+    ensures wanted { OnErr result (H.history host.new ≡ H.history host.old) }
+{
+    match files.get(place) {
+        None => Ok(()),
+        Some(file) => tell_bad_text(host, alloc, &file.bytes),
+    }
+}
+
 fn tell_bad_text<H: Host>(host: &mut H, alloc: Global, text: &[u8]) -> Result<(), AllocError>
     ensures told { OnOk result (TellsBad text.now (H.history host.old) (H.history host.new)) }
     ensures wanted { OnErr result (H.history host.new ≡ H.history host.old) }
@@ -237,19 +334,68 @@ fn tell_bad_text<H: Host>(host: &mut H, alloc: Global, text: &[u8]) -> Result<()
     }
 }
 
-/// How many information words the file is to have: its date alone, or those that are given.
-fn words_wanted(form: &PutOneForm, date: Option<Word>) -> usize
-    ensures { result ≡ words_wanted (given_count (words_of form.now.info)) date }
+/// The lines of files that were put, which have so many blocks.
+fn stored_lines(alloc: Global, files: &[NewFile], blocks: &[usize]) -> Result<Vec<u8>, Ending>
+    ensures { AreLines (spec.stored_lines files.now blocks.now) result }
+{
+    let mut lines = Vec::new(alloc);
+    put_lines(files, blocks, &mut lines)?;
+    Ok(lines)
+}
+
+/// Appends the lines of files that were put.
+fn put_lines(files: &[NewFile], blocks: &[usize], lines: &mut Vec<u8>) -> Result<(), AllocError>
+    ensures { OnOk result (lines.new.items ≡ lines.old.items ++ spec.stored_lines files.now blocks.now) }
+{
+    let mut rest = files;
+    let mut counts = blocks;
+    while let [file, others @ ..] = rest {
+        let [count, later @ ..] = counts else {
+            return Ok(());
+        };
+        put_stored(file.name, *count, lines)?;
+        rest = others;
+        counts = later;
+    }
+    Ok(())
+}
+
+/// The most information words that one of the files is to have.
+fn most_wanted(form: &PutFilesForm, files: &[NewFile]) -> usize
+    ensures { result ≡ most_wanted 0 (given_count (put_spec.words_of form.now.info)) files.now }
+{
+    let given = given_count(&form.info);
+    let mut most: usize = 0;
+    let mut rest = files;
+    while let [file, others @ ..] = rest {
+        most = larger_of(most, words_wanted(given, file.date));
+        rest = others;
+    }
+    most
+}
+
+fn larger_of(one: usize, other: usize) -> usize
+    ensures { result ≡ larger_of one other }
+{
+    if one < other {
+        return other;
+    }
+    one
+}
+
+/// How many information words a file is to have: its date alone, or as many as are given.
+fn words_wanted(given: usize, date: Option<Word>) -> usize
+    ensures { result ≡ words_wanted given date }
 {
     match date {
         Some(_) => 1,
-        None => given_count(&form.info),
+        None => given,
     }
 }
 
 /// How many information words are given.
 fn given_count(info: &Option<Vec<Word>>) -> usize
-    ensures { result ≡ given_count (words_of info.now) }
+    ensures { result ≡ given_count (put_spec.words_of info.now) }
 {
     match info {
         Some(words) => words.len(),
@@ -259,7 +405,7 @@ fn given_count(info: &Option<Vec<Word>>) -> usize
 
 /// The information words that are given.
 fn info_of(info: &Option<Vec<Word>>) -> &[Word]
-    ensures { result.now ≡ info_words (words_of info.now) }
+    ensures { result.now ≡ info_words (put_spec.words_of info.now) }
 {
     match info {
         Some(words) => words.as_slice(),
@@ -269,7 +415,7 @@ fn info_of(info: &Option<Vec<Word>>) -> &[Word]
 
 /// The information words that are given, if any are.
 fn given_words(info: &Option<Vec<Word>>) -> Option<&[Word]>
-    ensures { option_copied result ≡ words_of info.now }
+    ensures { option_copied result ≡ put_spec.words_of info.now }
 {
     match info {
         Some(words) => Some(words.as_slice()),

@@ -23,9 +23,13 @@ ends_write drive = is_over drive.time_left && is_write drive.function
 abbrev pub ends_read : DriveState → Bool
 ends_read drive = is_over drive.time_left && is_read drive.function
 
+-- a write is under way on a drive
+abbrev pub is_writing : DriveState → Bool
+is_writing drive = is_some drive.time_left && is_write drive.function
+
 -- no write is under way on a locked drive
 abbrev pub IsGuarded : DriveState → Type 0
-IsGuarded drive = drive.locked ≡ true → (is_some drive.time_left && is_write drive.function) ≡ false
+IsGuarded drive = drive.locked ≡ true → is_writing drive ≡ false
 
 abbrev pub AreGuarded : DiskState → Type 0
 AreGuarded d = (n : ℕ) → IsGuarded (drive_of d n)

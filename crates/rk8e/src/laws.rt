@@ -3,13 +3,13 @@
 ghost use Rattle.std.specs.Prelude.{◌≡◌, ◌≢◌, ℕ, ◌-◌, ◌%◌, ◌<◌, zero, suc, Bool, true, false, ◌&&◌, nat_eq, List, length, slice_index, Option, Some, None, Ok};
 ghost use Rattle.rk8e.specs.declared.sizes.TheConstants.{PACK, SECTOR, SECTORS};
 ghost use Rattle.rk8e.specs.Packs.{PackState, sector_word, file_word, IsFileOf, ReadsPack};
-ghost use Rattle.rk8e.specs.State.{DiskState, new_disk, drive_of, after_clear};
+ghost use Rattle.rk8e.specs.State.{DiskState, new_disk, drive_of, with_drive, with_lock, with_pack, after_clear};
 ghost use Rattle.rk8e.specs.Command.{sector_of, words_moved, is_requesting};
 ghost use Rattle.rk8e.specs.Go.{go};
 ghost use Rattle.rk8e.specs.Instructions.{instruction_row};
 ghost use Rattle.rk8e.specs.Time.{disk_after};
 ghost use Rattle.rk8e.specs.Transfer.{after_end, after_ends, cell_of, is_reached, word_written};
-ghost use Rattle.rk8e.specs.Laws.{map_word, ends_write, ends_read, AreGuarded, IsSettled, refuses};
+ghost use Rattle.rk8e.specs.Laws.{map_word, ends_write, ends_read, AreGuarded, is_writing, IsSettled, refuses};
 
 /// No word of a sector changes, but by the end of a function that writes, on its drive, and of the one sector that DA and the command
 /// name. Instructions, time and clearing leave each pack as it is.
@@ -69,6 +69,17 @@ pub fn one_transfer()
     ensures time { (d : DiskState) (count : ℕ) → IsSettled d → IsSettled (disk_after d count) }
     ensures clearing { (d : DiskState) → IsSettled (after_clear d) }
     ensures ends { (d : DiskState) (core : List ℕ) → IsSettled d → IsSettled (after_ends d core).disk }
+{}
+
+/// The operator keeps both: by each pack that is put into a drive or taken out of it. By a lock too, if no write is under way on the drive.
+pub fn operator_keeps()
+    ensures pack_settles { (d : DiskState) (n : ℕ) (pack : Option PackState) → IsSettled d
+        → IsSettled (with_drive d n (with_pack (drive_of d n) pack)) }
+    ensures pack_guards { (d : DiskState) (n : ℕ) (pack : Option PackState) → AreGuarded d
+        → AreGuarded (with_drive d n (with_pack (drive_of d n) pack)) }
+    ensures lock_settles { (d : DiskState) (n : ℕ) → IsSettled d → IsSettled (with_drive d n (with_lock (drive_of d n))) }
+    ensures lock_guards { (d : DiskState) (n : ℕ) → AreGuarded d → is_writing (drive_of d n) ≡ false
+        → AreGuarded (with_drive d n (with_lock (drive_of d n))) }
 {}
 
 /// What a step's beginning does where a transfer ends then, whichever drives end beside it. A sector that is written has the words of

@@ -14,8 +14,9 @@ use Rattle.trace8.specs.declared.faults.TraceFault.{TraceFault}
 use Rattle.trace8.specs.declared.faults.TraceFault.TheVariants as trace
 use Rattle.program_reports.specs.Program.{program_line}
 use Rattle.tape_reports.specs.Starts.{first_cell, start_cell}
-use Rattle.program_reports.specs.declared.programs.ProgramLine.{ProgramLine}
-use Rattle.program_reports.specs.declared.programs.ProgramLine.TheVariants.{Start, Steps}
+use Rattle.program_reports.specs.declared.programs.ProgramLine.TheVariants.{Start}
+use Rattle.run_commands.specs.RunLines.{run_line}
+use Rattle.run_commands.specs.declared.run_lines.RunLine.TheVariants.{Steps}
 use Rattle.program_tasks.specs.declared.forms.TapeForm.{TapeForm}
 use Rattle.program_tasks.specs.declared.tasks.Cpu.{Cpu}
 use Rattle.program_tasks.specs.declared.tasks.Cpu.TheVariants.{EightI, EightE}
@@ -35,7 +36,7 @@ use Rattle.image_files.specs.Work.{Then, Purely}
 use Rattle.tape_commands.specs.Kinds.{RefusesFrames}
 use Rattle.tape_commands.specs.Programs.{ReadsProgram}
 use Rattle.run_commands.specs.CorePrograms.{FindsStart, LoadsCore, LoadsProgram, StartsAt, StartsIf, TellsCell, TellsStart, program_in}
-use Rattle.run_commands.specs.Lines.{IsJust, TellsProgram}
+use Rattle.run_commands.specs.Lines.{IsJust, TellsRun, TellsText}
 use Rattle.run_commands.specs.Machines8i as pdp8i
 use Rattle.run_commands.specs.Machines8e as pdp8e
 use Rattle.run_commands.specs.Printing.{EndsRun, EndsTrace, IsEndOf, PrintsRun, PrintsTrace, line_of_end}
@@ -55,15 +56,15 @@ line-keeps : (path line : List ℕ) (old new : List Event) → TellsLine line ol
 line-keeps path line old new (inl (utf8, ok, p)) = same path p
 line-keeps path line old new (inr p) = same path p.1
 
-program-line-keeps : (line : ProgramLine) → KeepsFiles (TellsProgram line)
-program-line-keeps line old (Ok it) new p path = line-keeps path (program_line line) old new p
-program-line-keeps line old (Err ending) new p path = same path p.1
+text-keeps : (line : List ℕ) → KeepsFiles (TellsText line)
+text-keeps line old (Ok it) new p path = line-keeps path line old new p
+text-keeps line old (Err ending) new p path = same path p.1
 
 -- ## Where a program starts
 
 cell-keeps : (is : Bool) (start : ℕ) → KeepsFiles (TellsCell is start)
 cell-keeps true start old result new p path = same path p.1
-cell-keeps false start old result new p path = program-line-keeps (Start start) old result new p path
+cell-keeps false start old result new p path = text-keeps (program_line (Start start)) old result new p path
 
 start-keeps : (first start : ℕ) → KeepsFiles (TellsStart first start)
 start-keeps first start old result new (between, tells, p) path = cell-keeps (nat_eq start 0o200) start between result new p path ∙ tells-keeps path (start_note first start) old between tells
@@ -111,8 +112,8 @@ module _
         (λ run. then-keeps (Purely (ProfileOn form.cpu (unwrap_or form.steps 1000000) run)) (λ text. Prints text.items) (purely-keeps (ProfileOn form.cpu (unwrap_or form.steps 1000000) run)) (λ text. prints-keeps text.items))
 
     trace-ends : (cell : ℕ) (why : Option PrintFault) (done : Result Ended TraceFault) → KeepsFiles (EndsTrace cell why done)
-    trace-ends cell why (Ok ended) old result new p path = then-keeps (Purely (AreLines (program_line (Steps ended cell)))) (λ line. Prints line.items)
-        (purely-keeps (AreLines (program_line (Steps ended cell)))) (λ line. prints-keeps line.items) old result new p path
+    trace-ends cell why (Ok ended) old result new p path = then-keeps (Purely (AreLines (run_line (Steps ended cell)))) (λ line. Prints line.items)
+        (purely-keeps (AreLines (run_line (Steps ended cell)))) (λ line. prints-keeps line.items) old result new p path
     trace-ends cell why (Err trace.Memory) old result new p path = same path p.1
     trace-ends cell why (Err trace.Writer) old result new p path = same path p.1
 
@@ -131,7 +132,7 @@ module _
         (program-keeps form.tape) (λ tape. program-loads tape.frames.items (start_or form.start tape.start) form.switches)
 
     run-ends : (stand : Stand) (why : Option PrintFault) (done : Result Ended TerminalFault) → KeepsFiles (EndsRun stand why done)
-    run-ends stand why (Ok ended) old result new p path = then-keeps (TellsProgram (line_of_end stand ended.why)) (λ it. Purely (IsEndOf ended.why)) (program-line-keeps (line_of_end stand ended.why)) (λ it. purely-keeps (IsEndOf ended.why))
+    run-ends stand why (Ok ended) old result new p path = then-keeps (TellsRun (line_of_end stand ended.why)) (λ it. Purely (IsEndOf ended.why)) (text-keeps (run_line (line_of_end stand ended.why))) (λ it. purely-keeps (IsEndOf ended.why))
         old result new p path
     run-ends stand why (Err Reader) old result new p path = same path p.1
     run-ends stand why (Err Writer) old result new p path = same path p.1

@@ -10,7 +10,7 @@ use Rattle.bin_tape.specs.declared.faults.TapeFault.{TapeFault}
 use Rattle.word12.specs.declared.sizes.TheConstants.{CORE}
 use Rattle.hosts.specs.Event.{Event}
 use Rattle.image_files.specs.Work.{Then, Purely}
-use Rattle.script8.specs.declared.faults.SessionFault.TheVariants.{Memory}
+use Rattle.refusals.specs.declared.faults.SessionFault.TheVariants.{Memory}
 use Rattle.program_tasks.specs.declared.tasks.TraceForm.{TraceForm}
 use Rattle.outcome.specs.Endings.{ending_of_tape}
 use Rattle.outcome.specs.declared.endings.Ending.{Ending}

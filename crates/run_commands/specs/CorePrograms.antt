@@ -7,7 +7,7 @@ use Rattle.bin_tape.specs.declared.faults.TapeFault.{TapeFault}
 use Rattle.core_load.specs.Core.{zeros}
 use Rattle.core_load.specs.Load.{IsLoaded, LoadsTape}
 use Rattle.hosts.specs.Event.{Event}
-use Rattle.script8.specs.declared.faults.SessionFault.TheVariants.{Memory}
+use Rattle.refusals.specs.declared.faults.SessionFault.TheVariants.{Memory}
 use Rattle.tape_reports.specs.Starts.{first_cell, start_cell}
 use Rattle.program_reports.specs.declared.programs.ProgramLine.TheVariants.{NothingToRun, Start}
 use Rattle.outcome.specs.Endings.{ending_of_tape}

@@ -5,6 +5,7 @@ pub mod Machines8e
 pub mod Machines8i
 pub mod Printing
 pub mod Profiles
+pub mod RunLines
 pub mod RunSteps
 pub mod Runs
 pub mod Teletypes

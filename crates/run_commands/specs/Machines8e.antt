@@ -11,7 +11,7 @@ use Rattle.terminal8.specs.declared.outcomes.Ended.{Ended}
 use Rattle.terminal8.specs.declared.outcomes.TerminalFault.{TerminalFault}
 use Rattle.trace8e.specs.Tracing.{Traces}
 use Rattle.trace8.specs.declared.faults.TraceFault.{TraceFault}
-use Rattle.profile8e.specs.Counts.{AreCounts}
+use Rattle.trace8e.specs.Counts.{AreCounts}
 use Rattle.program_tasks.specs.declared.tasks.TeletypeForm.{TeletypeForm}
 use Rattle.run_commands.specs.Inputs.{form_of, input_of}
 use Rattle.run_commands.specs.declared.core_programs.CoreProgram.{CoreProgram}

@@ -14,30 +14,30 @@ use Rattle.hosts.specs.Event.{Event}
 use Rattle.hosts.specs.Streams.{output_text}
 use Rattle.hosts.specs.declared.faults.PrintFault.{PrintFault}
 use Rattle.host_output.specs.Printing.{HasPrinted}
-use Rattle.script8.specs.declared.faults.SessionFault.TheVariants as session
-use Rattle.program_reports.specs.Program.{program_line}
-use Rattle.program_reports.specs.declared.programs.ProgramLine.{ProgramLine}
-use Rattle.program_reports.specs.declared.programs.ProgramLine.TheVariants as line
+use Rattle.refusals.specs.declared.faults.SessionFault.TheVariants as session
 use Rattle.outcome.specs.declared.endings.Ending.{Ending}
 use Rattle.outcome.specs.declared.endings.Ending.TheVariants.{Fault, Failure}
 use Rattle.image_files.specs.Answers.{AreLines}
 use Rattle.image_files.specs.Saving.{IsDone, Prints}
 use Rattle.image_files.specs.Work.{Then, Purely}
-use Rattle.run_commands.specs.Lines.{TellsProgram, IsEnding, ending_of_output}
+use Rattle.run_commands.specs.Lines.{TellsRun, IsEnding, ending_of_output}
+use Rattle.run_commands.specs.RunLines.{run_line}
+use Rattle.run_commands.specs.declared.run_lines.RunLine.{RunLine}
+use Rattle.run_commands.specs.declared.run_lines.RunLine.TheVariants as line
 use Rattle.run_commands.specs.declared.printing.Stand.{Stand}
 
 -- ## A run
 
 -- the line of a machine that halted: with MQ, if it has one
-abbrev pub line_by_mq : Stand → Option ℕ → ProgramLine
+abbrev pub line_by_mq : Stand → Option ℕ → RunLine
 line_by_mq stand None = line.Halted stand.cell stand.ac stand.l
 line_by_mq stand (Some mq) = line.HaltedWithMq stand.cell stand.ac stand.l mq
 
-abbrev pub halted_line : Stand → ProgramLine
+abbrev pub halted_line : Stand → RunLine
 halted_line stand = line_by_mq stand stand.mq
 
 -- the line of a machine that goes no further
-abbrev pub line_of_end : Stand → TerminalEnd → ProgramLine
+abbrev pub line_of_end : Stand → TerminalEnd → RunLine
 line_of_end stand why.Halt = halted_line stand
 line_of_end stand why.Keys = line.KeysEnd stand.cell
 line_of_end stand why.Unassigned = line.Unassigned stand.cell stand.word
@@ -52,7 +52,7 @@ IsEndOf why.Limit result = IsEnding Failure result
 
 -- the line of the end is printed on standard error; or the keys could not be read, or standard output took no more
 abbrev pub EndsRun : Stand → Option PrintFault → Result Ended TerminalFault → List Event → Result (Unit {0}) Ending → List Event → Type 0
-EndsRun stand fault (Ok ended) = Then (TellsProgram (line_of_end stand ended.why)) (λ it. Purely (IsEndOf ended.why))
+EndsRun stand fault (Ok ended) = Then (TellsRun (line_of_end stand ended.why)) (λ it. Purely (IsEndOf ended.why))
 EndsRun stand fault (Err terminal.Reader) = Purely (IsEnding (Fault session.Reader))
 EndsRun stand fault (Err terminal.Writer) = Purely (IsEnding (ending_of_output fault))
 
@@ -72,7 +72,7 @@ pub record PrintsRun (runs_to : Stand → Option (List ℕ) → Option (List ℕ
 
 -- the line of the end is printed, at which the machine stands before this cell; or memory was wanted, or standard output took no more
 abbrev pub EndsTrace : ℕ → Option PrintFault → Result Ended TraceFault → List Event → Result (Unit {0}) Ending → List Event → Type 0
-EndsTrace cell fault (Ok ended) = Then (Purely (AreLines (program_line (line.Steps ended cell)))) (λ text. Prints text.items)
+EndsTrace cell fault (Ok ended) = Then (Purely (AreLines (run_line (line.Steps ended cell)))) (λ text. Prints text.items)
 EndsTrace cell fault (Err trace.Memory) = Purely (IsEnding (Fault session.Memory))
 EndsTrace cell fault (Err trace.Writer) = Purely (IsEnding (ending_of_output fault))
 
@@ -98,7 +98,7 @@ pub record IsProfiled (counts_to : Ended → List ℕ → ℕ → Type 0) (flags
   pub counted : counts_to ended counts cell
   pub profile : List ℕ
   pub profiled : IsProfile counts (is_flagged flags) profile
-  pub lines : text ≡ profile ++ program_line (line.Steps ended cell)
+  pub lines : text ≡ profile ++ run_line (line.Steps ended cell)
 
 abbrev pub GivesProfile : (Ended → List ℕ → ℕ → Type 0) → List Bool → Result (Vec ℕ) Ending → Type 0
 GivesProfile counts_to flags (Ok text) = IsProfiled counts_to flags text.items

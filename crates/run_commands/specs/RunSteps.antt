@@ -3,10 +3,10 @@ use Rattle.std.specs.Prelude.{◌≡◌, ℕ, Bool, Result, Ok, Err, List, ◌++
 use Rattle.std.specs.Global.{Vec}
 use Rattle.terminal8.specs.declared.outcomes.Ended.{Ended}
 use Rattle.profile8.specs.Profile.{IsProfile, is_flagged}
-use Rattle.script8.specs.declared.faults.SessionFault.TheVariants.{Memory}
+use Rattle.refusals.specs.declared.faults.SessionFault.TheVariants.{Memory}
 use Rattle.tape_reports.specs.Given.{AreGiven}
-use Rattle.program_reports.specs.Program.{program_line}
-use Rattle.program_reports.specs.declared.programs.ProgramLine.TheVariants.{Steps}
+use Rattle.run_commands.specs.RunLines.{run_line}
+use Rattle.run_commands.specs.declared.run_lines.RunLine.TheVariants.{Steps}
 use Rattle.outcome.specs.declared.endings.Ending.{Ending}
 use Rattle.outcome.specs.declared.endings.Ending.TheVariants.{Fault}
 
@@ -17,5 +17,5 @@ AreFlags frames (Err ending) = ending ≡ Fault Memory
 
 -- the profile of these counts, and the line of their end, unless memory is wanted for them
 abbrev pub ShowsCounts : List ℕ → List Bool → Ended → ℕ → Result (Vec ℕ) Ending → Type 0
-ShowsCounts counts flags ended cell (Ok text) = (profile : List ℕ) × IsProfile counts (is_flagged flags) profile × (text.items ≡ profile ++ program_line (Steps ended cell))
+ShowsCounts counts flags ended cell (Ok text) = (profile : List ℕ) × IsProfile counts (is_flagged flags) profile × (text.items ≡ profile ++ run_line (Steps ended cell))
 ShowsCounts counts flags ended cell (Err ending) = ending ≡ Fault Memory

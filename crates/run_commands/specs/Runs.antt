@@ -4,7 +4,7 @@ use Rattle.std.specs.Global.{Global}
 use Rattle.terminal8.specs.Keys.{keys_of}
 use Rattle.terminal8.specs.declared.keyboards.Form.TheVariants.{Text}
 use Rattle.hosts.specs.Event.{Event}
-use Rattle.script8.specs.declared.faults.SessionFault.TheVariants.{Memory}
+use Rattle.refusals.specs.declared.faults.SessionFault.TheVariants.{Memory}
 use Rattle.tape_reports.specs.Given.{AreGiven}
 use Rattle.program_tasks.specs.declared.tasks.TraceForm.{TraceForm}
 use Rattle.outcome.specs.declared.endings.Ending.{Ending}

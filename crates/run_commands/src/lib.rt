@@ -9,6 +9,7 @@ mod machines8e;
 mod machines8i;
 mod printing;
 mod profiles;
+mod run_lines;
 mod runs;
 mod teletypes;
 mod traces;

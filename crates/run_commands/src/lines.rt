@@ -1,14 +1,13 @@
 //! The lines of the commands on machines, and how these end where standard output takes no more.
 ghost use Rattle.std.specs.Prelude.{◌≡◌};
-ghost use Rattle.program_reports.specs.Program.{program_line};
-ghost use Rattle.image_files.specs.Answers.{AreLines};
 ghost use Rattle.run_commands.specs.Lines as spec;
-ghost use Rattle.run_commands.specs.Lines.{TellsProgram};
+ghost use Rattle.run_commands.specs.Lines.{TellsProgram, TellsRun};
 
+use crate::run_lines::{RunLine, run_line};
 use hosts::{Host, PrintFault};
-use image_files::tell_line;
+use image_files::{program_line, tell_line};
 use outcome::Ending;
-use program_reports::{ProgramLine, put_program};
+use program_reports::ProgramLine;
 use std::alloc::Global;
 
 /// Prints a line on standard error that is no fault.
@@ -19,18 +18,18 @@ pub(crate) fn tell_program<H: Host>(
 ) -> Result<(), Ending>
     ensures { TellsProgram line.now (H.history host.old) result (H.history host.new) }
 {
-    let text = text_of(alloc, line)?;
+    let text = program_line(alloc, line)?;
     tell_line(host, &text);
     Ok(())
 }
 
-/// The text of a line.
-pub(crate) fn text_of(alloc: Global, line: &ProgramLine) -> Result<Vec<u8>, Ending>
-    ensures { AreLines (program_line line.now) result }
+/// Prints the line of a run on standard error.
+pub(crate) fn tell_run<H: Host>(host: &mut H, alloc: Global, line: &RunLine) -> Result<(), Ending>
+    ensures { TellsRun line.now (H.history host.old) result (H.history host.new) }
 {
-    let mut text = Vec::new(alloc);
-    put_program(line, &mut text)?;
-    Ok(text)
+    let text = run_line(alloc, line)?;
+    tell_line(host, &text);
+    Ok(())
 }
 
 /// How a command ends whose output failed, by why its last print that failed did.

@@ -24,14 +24,13 @@ use host_output::{Before, Printer};
 use hosts::{Host, PrintFault};
 use outcome::Ending;
 use profile8::no_counts;
-use profile8e::count_fetches;
 use program_tasks::TeletypeForm;
 use std::alloc::Global;
 use std::marker::Brand;
 use terminal8::{Ended, TerminalFault};
 use terminal8e::{Terminal, run};
 use trace8::TraceFault;
-use trace8e::trace;
+use trace8e::{count_fetches, trace};
 
 /// An 8/E that stands where a program starts.
 fn machine_of(program: CoreProgram) -> Machine

@@ -5,13 +5,13 @@ ghost use Rattle.run_commands.specs.Printing as spec;
 ghost use Rattle.run_commands.specs.Printing.{EndsRun, EndsTrace, IsEndOf};
 ghost use Rattle.run_commands.specs.RunSteps.{ShowsCounts};
 
-use crate::lines::{ending_of_output, tell_program, text_of};
+use crate::lines::{ending_of_output, tell_run};
+use crate::run_lines::{RunLine, put_run, run_line};
 use hosts::{Host, PrintFault};
 use image_files::print;
 use outcome::Ending;
 use profile8::profile_text;
-use program_reports::{ProgramLine, put_program};
-use script8::SessionFault;
+use refusals::SessionFault;
 use std::alloc::Global;
 use terminal8::{Ended, TerminalEnd, TerminalFault};
 use trace8::TraceFault;
@@ -42,7 +42,7 @@ pub(crate) fn end_run<H: Host>(
 {
     match done {
         Ok(ended) => {
-            tell_program(host, alloc, &line_of_end(stand, ended.why))?;
+            tell_run(host, alloc, &line_of_end(stand, ended.why))?;
             end_of(ended.why)
         }
         Err(TerminalFault::Reader) => Err(Ending::Fault(SessionFault::Reader)),
@@ -51,24 +51,24 @@ pub(crate) fn end_run<H: Host>(
 }
 
 /// The line of a machine that goes no further.
-fn line_of_end(stand: Stand, why: TerminalEnd) -> ProgramLine
+fn line_of_end(stand: Stand, why: TerminalEnd) -> RunLine
     ensures { result ≡ spec.line_of_end stand why }
 {
     match why {
         TerminalEnd::Halt => halted_line(stand),
-        TerminalEnd::Keys => ProgramLine::KeysEnd(stand.cell),
-        TerminalEnd::Unassigned => ProgramLine::Unassigned(stand.cell, stand.word),
-        TerminalEnd::Limit => ProgramLine::Limit(stand.cell),
+        TerminalEnd::Keys => RunLine::KeysEnd(stand.cell),
+        TerminalEnd::Unassigned => RunLine::Unassigned(stand.cell, stand.word),
+        TerminalEnd::Limit => RunLine::Limit(stand.cell),
     }
 }
 
 /// The line of a machine that halted.
-fn halted_line(stand: Stand) -> ProgramLine
+fn halted_line(stand: Stand) -> RunLine
     ensures { result ≡ spec.halted_line stand }
 {
     match stand.mq {
-        Some(mq) => ProgramLine::HaltedWithMq(stand.cell, stand.ac, stand.l, mq),
-        None => ProgramLine::Halted(stand.cell, stand.ac, stand.l),
+        Some(mq) => RunLine::HaltedWithMq(stand.cell, stand.ac, stand.l, mq),
+        None => RunLine::Halted(stand.cell, stand.ac, stand.l),
     }
 }
 
@@ -94,7 +94,7 @@ pub(crate) fn end_trace<H: Host>(
 {
     match done {
         Ok(ended) => {
-            let line = text_of(alloc, &ProgramLine::Steps(ended, cell))?;
+            let line = run_line(alloc, &RunLine::Steps(ended, cell))?;
             print(host, &line)
         }
         Err(TraceFault::Memory) => Err(Ending::Fault(SessionFault::Memory)),
@@ -115,6 +115,6 @@ pub(crate) fn counts_text(
     ensures { ShowsCounts counts.now flags.now ended cell result }
 {
     let mut text = profile_text(alloc, counts, flags)?;
-    put_program(&ProgramLine::Steps(ended, cell), &mut text)?;
+    put_run(&RunLine::Steps(ended, cell), &mut text)?;
     Ok(text)
 }

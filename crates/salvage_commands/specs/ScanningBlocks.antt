@@ -9,7 +9,7 @@ use Rattle.hosts.specs.Streams.{errors, failures, last_fault}
 use Rattle.hosts.specs.declared.faults.FaultClass.{FaultClass}
 use Rattle.hosts.specs.declared.faults.FaultClass.TheVariants as class
 use Rattle.hosts.specs.declared.faults.HostFault.{HostFault}
-use Rattle.script8.specs.declared.faults.SessionFault.TheVariants.{Memory}
+use Rattle.refusals.specs.declared.faults.SessionFault.TheVariants.{Memory}
 use Rattle.program_reports.specs.declared.programs.ProgramLine.TheVariants.{HostExists, HostWrite}
 use Rattle.outcome.specs.declared.endings.Ending.{Ending}
 use Rattle.outcome.specs.declared.endings.Ending.TheVariants.{Line, Fault}

@@ -10,7 +10,7 @@ use image_files::{look_at, print, refuse_image, tell_first};
 use outcome::Ending;
 use program_reports::ProgramLine;
 use program_tasks::ImageForm;
-use script8::SessionFault;
+use refusals::SessionFault;
 use std::alloc::Global;
 use volume_salvage::{Piece, Scan, form_of, piece_name, scan_image};
 

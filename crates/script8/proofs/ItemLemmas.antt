@@ -12,8 +12,8 @@ use Rattle.script8.specs.declared.items.Next.TheVariants as next
 use Rattle.script8.specs.CutSteps.{with_line_end, HasPrefix, Cuts, FirstLineSays, TooFew}
 use Rattle.script8.specs.declared.entries.Entry.TheVariants as entry
 use Rattle.script8.specs.declared.entries.FileEntry.TheVariants as files
-use Rattle.script8.specs.declared.faults.SessionFault.{SessionFault}
-use Rattle.script8.specs.declared.faults.SessionFault.TheVariants.{BadLine, Memory}
+use Rattle.refusals.specs.declared.faults.SessionFault.{SessionFault}
+use Rattle.refusals.specs.declared.faults.SessionFault.TheVariants.{BadLine, Memory}
 use Rattle.script8.specs.declared.lines.Line.{Line}
 use Rattle.script8.specs.declared.lines.Line.TheVariants as line
 use Rattle.script8.specs.declared.items.Item.{Item}

@@ -8,8 +8,8 @@ use Rattle.std.proofs.lemmas.Bool.Decides.{eqb_tells, leb_tells}
 use Rattle.script8.specs.Lines.{command_of, onto_first, parts_of, words_of, form_of, whole, name_bytes, line_of_name, store_of, is_name, parts_of_list, lists_names, assemble_entry, assemble_of, bare_entry, entry_with_word, at_console, console_with_words, command_says, says}
 use Rattle.script8.specs.CutSteps.{part_of, is_mark}
 use Rattle.script8.specs.declared.entries.Entry.{Entry}
-use Rattle.script8.specs.declared.faults.SessionFault.{SessionFault}
-use Rattle.script8.specs.declared.faults.SessionFault.TheVariants.{BadLine}
+use Rattle.refusals.specs.declared.faults.SessionFault.{SessionFault}
+use Rattle.refusals.specs.declared.faults.SessionFault.TheVariants.{BadLine}
 use Rattle.script8.specs.declared.lines.Line.{Line}
 
 -- the CR at the end of a line is dropped

@@ -1,7 +1,7 @@
 -- How many bytes some lines of a text have, and the first part of a text, for private clauses.
 use Rattle.std.specs.Prelude.{◌≡◌, ℕ, ◌+◌, ◌<◌, ◌≤◌, ◌==◌, Bool, true, false, if◌then◌else◌, Ok, Err, List, [], ◌∷◌, ◌++◌, length, take, drop, Result}
 use Rattle.script8.specs.Lines.{says}
-use Rattle.script8.specs.declared.faults.SessionFault.{SessionFault}
+use Rattle.refusals.specs.declared.faults.SessionFault.{SessionFault}
 use Rattle.script8.specs.declared.lines.Line.{Line}
 use Rattle.script8.specs.Items.{lines_of, ended_lines, text_of}
 

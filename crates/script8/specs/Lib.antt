@@ -1,9 +1,7 @@
 pub mod CutSteps
-pub mod Faults
 pub mod Items
 pub mod Lines
 pub mod ReadSteps
 pub mod Reading
 pub mod Replies
-pub mod Shown
 pub mod Written

@@ -2,14 +2,15 @@
 use Rattle.std.specs.Prelude.{ℕ, ◌/◌, codes, decimal, Bool, true, false, Option, Some, None, List, [], ◌∷◌, ◌++◌, Result, Ok, Err}
 use Rattle.std.specs.List.{flat_map}
 use Rattle.word12.specs.Octal.{octal_digit, octal4, octal5}
-use Rattle.script8.specs.Faults.{fault_text}
-use Rattle.script8.specs.Shown.{name_text}
+use Rattle.refusals.specs.Faults.{fault_line}
+use Rattle.refusals.specs.Listed.{file_lines, free_line}
+use Rattle.refusals.specs.Shown.{name_text}
 use Rattle.script8.specs.declared.entries.Entry.{Entry}
 use Rattle.script8.specs.declared.entries.Entry.TheVariants as entry
 use Rattle.script8.specs.declared.entries.JobEntry.{JobEntry}
 use Rattle.script8.specs.declared.entries.JobEntry.TheVariants as job
-use Rattle.script8.specs.declared.faults.SessionFault.{SessionFault}
-use Rattle.script8.specs.declared.faults.SessionFault.TheVariants.{BadLine, NoJob, TooManyJobs, File, Asm, Tape, BadText, Reader, Writer, Memory, TooManyBreaks}
+use Rattle.refusals.specs.declared.faults.SessionFault.{SessionFault}
+use Rattle.refusals.specs.declared.faults.SessionFault.TheVariants.{BadLine, NoJob, TooManyJobs, File, Asm, Tape, BadText, Reader, Writer, Memory, TooManyBreaks}
 use Rattle.script8.specs.declared.replies.Reply.{Reply}
 use Rattle.script8.specs.declared.replies.Reply.TheVariants.{Line}
 use Rattle.script8.specs.declared.replies.Reply.TheVariants as reply
@@ -20,22 +21,6 @@ use Rattle.script8.specs.declared.replies.LineReply.TheVariants.{Stored, Deleted
 use Rattle.script8.specs.declared.replies.StepEnd.{StepEnd}
 use Rattle.script8.specs.declared.replies.StepEnd.TheVariants.{Halt, Unassigned, Limit}
 use Rattle.script8.specs.declared.replies.StepEnd.TheVariants as why
-
--- the line of a file with its blocks
-abbrev pub file_line : ℕ × ℕ → List ℕ
-file_line (name, blocks) = name_text name ++ 0o40 ∷ decimal blocks ++ 0o12 ∷ []
-
--- the lines of some files
-abbrev pub file_lines : List (ℕ × ℕ) → List ℕ
-file_lines files = flat_map file_line files
-
--- the line of the free blocks
-abbrev pub free_line : ℕ → List ℕ
-free_line blocks = codes "FREE " ++ decimal blocks ++ 0o12 ∷ []
-
--- the line of a fault
-abbrev pub fault_line : SessionFault → List ℕ
-fault_line fault = fault_text fault ++ 0o12 ∷ []
 
 -- a line of some text
 abbrev pub line_of : List ℕ → List ℕ

@@ -1,12 +1,13 @@
 ghost use Rattle.std.specs.Prelude.{◌≡◌, ◌+◌, ◌≤◌, ◌++◌, OnOk, OnErr, IsOk, IsOkUnless, vec_len, vec_capacity, Ok, Err, option_copied};
 ghost use Rattle.script8.specs.Replies.{answer_lines, reply_lines, line_reply_text, line_of, IsShort};
-ghost use Rattle.script8.specs.declared.faults.SessionFault.TheVariants.{Memory};
+ghost use Rattle.refusals.specs.declared.faults.SessionFault.TheVariants.{Memory};
 
+use crate::job_prefixes::{job_of, put_fault_prefix};
 use crate::line_replies::put_line_reply;
-use crate::refusals::{job_of, put_fault_prefix, put_text};
 use crate::reports::put_report;
-use crate::text_lines::{TextLine, put};
-use crate::{Entry, LineReply, Reply, SessionFault};
+use crate::{Entry, LineReply, Reply};
+use refusals::text_lines::{TextLine, put};
+use refusals::{SessionFault, put_text};
 use std::alloc::AllocError;
 
 /// Appends the lines of an answer, each with its LF (this project's profile). The entry is that of the answer, where it

@@ -4,11 +4,12 @@ ghost use Rattle.std.specs.List.{list_all};
 ghost use Rattle.script8.specs.Lines.{Parses, whole, assemble_of, lists_names, parts_of_list, is_name};
 ghost use Rattle.script8.specs.declared.entries.Entry.TheVariants as entry;
 ghost use Rattle.script8.specs.declared.entries.JobEntry.TheVariants as job;
-ghost use Rattle.script8.specs.declared.faults.SessionFault.TheVariants.{Memory};
+ghost use Rattle.refusals.specs.declared.faults.SessionFault.TheVariants.{Memory};
 ghost use Rattle.script8.specs.declared.lines.Line.TheVariants.{Whole};
 
 use crate::parts::first_part;
-use crate::{Bytes, Entry, JobEntry, Line, Names, SessionFault};
+use crate::{Bytes, Entry, JobEntry, Line, Names};
+use refusals::SessionFault;
 use std::alloc::{AllocError, Global};
 use word12::MOST_SOURCES;
 

@@ -2,12 +2,13 @@
 ghost use Rattle.std.specs.Prelude.{◌≡◌, if◌then◌else◌, ◌∷◌, ◌++◌, ◌-◌, ◌<◌, ◌≤◌, ℕ, List, [], length, drop, Ok, Err, IfOk, true, false};
 ghost use Rattle.script8.specs.CutSteps.{Cuts, Cut, FirstLineSays, with_line_end};
 ghost use Rattle.script8.specs.Items.{BeginsWith, WaitsForLines, ended_lines};
-ghost use Rattle.script8.specs.declared.faults.SessionFault.TheVariants.{BadLine};
+ghost use Rattle.refusals.specs.declared.faults.SessionFault.TheVariants.{BadLine};
 ghost use Rattle.script8.specs.declared.items.Item.TheVariants.{Refused};
 ghost use Rattle.script8.specs.declared.lines.Line.TheVariants.{Store};
 ghost use Rattle.script8.specs.declared.items.Next.TheVariants as next;
 
-use crate::{Bytes, Entry, FileEntry, Line, SessionFault, parse_line};
+use crate::{Bytes, Entry, FileEntry, Line, parse_line};
+use refusals::SessionFault;
 use std::alloc::{AllocError, Global};
 
 /// An item of a script.

@@ -1,18 +1,10 @@
-//! What holds of names and numbers in lines. Each function does nothing: its contract is the law.
+//! What holds of numbers and sources in lines. Each function does nothing: its contract is the law.
 ghost use Rattle.std.specs.Prelude.{◌≡◌, ◌<◌, ℕ, List, Option, Some, decimal};
 ghost use Rattle.word12.specs.Octal.{octal4, octal5, octal_of};
 ghost use Rattle.word12.specs.declared.sizes.TheConstants.{CORE};
-ghost use Rattle.os8_dir.specs.Names.{parsed_name};
 ghost use Rattle.script8.specs.Lines.{number_of, cell_of, character_of};
 ghost use Rattle.script8.specs.Replies.{character_text};
-ghost use Rattle.script8.specs.Shown.{name_text};
 ghost use Rattle.script8.specs.Written.{AssembleAsWritten};
-
-/// A name is shown as it was typed.
-#[tactic(auto, using(crate::proofs::LawLemmas::name_as_typed))]
-pub fn name_as_typed()
-    ensures { (text : List ℕ) (name : ℕ) → parsed_name text ≡ Some name → name_text name ≡ text }
-{}
 
 /// A number of at most seven digits that is shown is read as that number.
 #[tactic(auto, using(crate::proofs::LawLemmas::number_as_shown))]

@@ -4,10 +4,10 @@ ghost use Rattle.arrayvec.specs.ArrayVec.{array_vec_len};
 ghost use Rattle.word12.specs.Octal.{octal5};
 ghost use Rattle.script8.specs.Replies.{line_reply_text, assembled_text, file_text, why_text, setting_text, character_text, job_text};
 
-use crate::text_lines::{put, put_name, put_number};
 use crate::{LineReply, StepEnd};
 use arrayvec::ArrayVec;
 use os8_dir::Name;
+use refusals::text_lines::{put, put_name, put_number};
 use word12::Cell;
 
 /// Puts the text of a reply of one line into an empty line.

@@ -1,9 +1,10 @@
 //! The operands of entries: numbers, cells, words, characters and names.
 ghost use Rattle.std.specs.Prelude.{◌≡◌, ◌≢◌, ◌≤◌, ◌⊎◌, [], Err, length};
 ghost use Rattle.script8.specs.Lines.{name_bytes, number_of, digits_from, within as within_of, steps_of, are_steps, character_of, setting_of};
-ghost use Rattle.script8.specs.declared.faults.SessionFault.TheVariants.{Memory};
+ghost use Rattle.refusals.specs.declared.faults.SessionFault.TheVariants.{Memory};
 
-use crate::{Bytes, SessionFault};
+use crate::Bytes;
+use refusals::SessionFault;
 use std::alloc::Global;
 use word12::octal;
 

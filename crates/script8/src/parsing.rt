@@ -4,7 +4,8 @@ ghost use Rattle.script8.specs.Lines.{says, Parses, form_of, command_of, words_o
 use crate::assembling::assemble;
 use crate::operands::{character, name, number, setting, steps, within};
 use crate::parts::first_part;
-use crate::{ConsoleEntry, Entry, FileEntry, JobEntry, Line, SessionFault};
+use crate::{ConsoleEntry, Entry, FileEntry, JobEntry, Line};
+use refusals::SessionFault;
 use std::alloc::Global;
 use word12::{octal_cell, octal_word};
 

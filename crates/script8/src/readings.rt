@@ -4,15 +4,12 @@ ghost use Rattle.std.specs.Prelude.{◌≡◌, ◌<◌, [], length, vec_len, IfE
 ghost use Rattle.script8.specs.Reading.{ReadsOnce, IsReaderEnd};
 ghost use Rattle.script8.specs.ReadSteps.{ReadsWithin};
 ghost use Rattle.script8.specs.Reading.{IsReadWithin, IsReadFault, MayReadNoMore};
-ghost use Rattle.script8.specs.declared.faults.SessionFault.TheVariants as fault;
+ghost use Rattle.refusals.specs.declared.faults.SessionFault.TheVariants as fault;
 
-use crate::SessionFault;
 use byte_reader::{ByteReader, WatchedReader, read_bytes};
+use refusals::{MOST, SessionFault};
 use std::alloc::{AllocError, Global};
 use std::io::Read;
-
-/// How many bytes are read at most.
-pub const MOST: usize = 16_777_216;
 
 /// How many bytes are asked for at once.
 pub const PIECE: usize = 65_536;

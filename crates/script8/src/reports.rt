@@ -1,11 +1,12 @@
 //! What may take more than one line of 80 bytes.
 ghost use Rattle.std.specs.Prelude.{◌≡◌, ◌≤◌, ◌++◌, ℕ, List, codes, OnOk, OnErr, vec_capacity};
-ghost use Rattle.script8.specs.Replies.{report_lines, printed_character, printed_text, line_of, file_line, file_lines, free_line};
+ghost use Rattle.script8.specs.Replies.{report_lines, printed_character, printed_text, line_of};
+ghost use Rattle.refusals.specs.Listed.{file_line, file_lines, free_line};
 
 use crate::Report;
 use crate::line_replies::octal3;
-use crate::text_lines::{TextLine, put, put_name, put_number};
 use os8_dir::Name;
+use refusals::text_lines::{TextLine, put, put_name, put_number};
 use std::alloc::AllocError;
 
 /// Appends the lines of a report; where memory is refused, nothing.

@@ -2,7 +2,7 @@
 use Rattle.std.proofs.Common.{◌≡◌, ◌∙◌, ◌<◌, ◌≤◌, ◌+◌, ◌-◌, ◌^◌, ◌++◌, ℕ, min, Option, None, Some, List, [], length, take, refl, ap, sym, arith}
 use Rattle.std.proofs.Math.Nat.{min-eq_left}
 use Rattle.std.proofs.lemmas.List.{append_assoc, length-append, length-take}
-use Rattle.script8.specs.declared.readings.TheConstants.{MOST}
+use Rattle.refusals.specs.declared.faults.TheConstants.{MOST}
 use Rattle.std.specs.Io.KnownBytes.{Consumes, Keeps}
 use Rattle.std.proofs.KnownBytes.{Consumes-kept}
 use Rattle.script8.specs.Reading.{TakesBytes}

@@ -15,7 +15,7 @@ use Rattle.program_tasks.specs.declared.tasks.RunForm.{RunForm}
 use Rattle.program_tasks.specs.declared.tasks.Saving.{Saving}
 use Rattle.program_tasks.specs.declared.tasks.Saving.TheVariants.{Never}
 use Rattle.script8.specs.declared.entries.Entry.{Entry}
-use Rattle.script8.specs.declared.faults.SessionFault.{SessionFault}
+use Rattle.refusals.specs.declared.faults.SessionFault.{SessionFault}
 use Rattle.script8.specs.declared.replies.Reply.{Reply}
 use Rattle.system_session.specs.Session.{SessionView}
 use Rattle.image_files.specs.Answers.{Answers, Refuses}

@@ -47,7 +47,7 @@ got is_place is_sync before img after bytes durability old mid new w notes place
   noted = errors mid;
   place_note = rw n.answers w.wrote.note;
   sync_note = n.note;
-  only = record { others = λ other apart. n.files other ∙ w.wrote.only.others other apart; prints = n.prints ∙ w.wrote.only.prints; reads = n.reads ∙ w.wrote.only.reads };
+  only = record { others = λ other apart. n.files other ∙ w.wrote.only.others other apart; beside = rw (n.files path) w.wrote.only.beside; prints = n.prints ∙ w.wrote.only.prints; reads = n.reads ∙ w.wrote.only.reads };
 } where
   path : List ℕ
   path = before.place.path.bytes.items
@@ -112,4 +112,4 @@ pub written_so : (is_told : Bool) (before after : Image) (bytes body : List ℕ)
 written_so is_told before after bytes body (Ok durability) old new held place same judgment body_is (file, is, kind, wrote) =
     record { held = held; place = place; same = same; file = file; is = (body, body_is, is); judgment = judgment; kind = kind; wrote = wrote }
 written_so is_told before after bytes body (Err ending) old new held place same judgment body_is (inl (ends, told)) = inr (inl (ends, NoRoom, told))
-written_so is_told before after bytes body (Err ending) old new held place same judgment body_is (inr (file, writes)) = inr (inr (file, writes))
+written_so is_told before after bytes body (Err ending) old new held place same judgment body_is (inr (file, writes)) = inr (inr (held, file, writes))

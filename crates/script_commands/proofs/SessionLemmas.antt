@@ -10,9 +10,9 @@ use Rattle.program_tasks.specs.declared.tasks.RunForm.{RunForm}
 use Rattle.program_tasks.specs.declared.tasks.Saving.{Saving}
 use Rattle.program_tasks.specs.declared.tasks.Saving.TheVariants.{Never}
 use Rattle.script8.specs.Reading.{MayReadNoMore, TakesBytes}
-use Rattle.script8.specs.declared.readings.TheConstants.{MOST}
-use Rattle.script8.specs.declared.faults.SessionFault.{SessionFault}
-use Rattle.script8.specs.declared.faults.SessionFault.TheVariants.{Reader, Writer}
+use Rattle.refusals.specs.declared.faults.TheConstants.{MOST}
+use Rattle.refusals.specs.declared.faults.SessionFault.{SessionFault}
+use Rattle.refusals.specs.declared.faults.SessionFault.TheVariants.{Reader, Writer}
 use Rattle.system_session.specs.Script.{RunsText}
 use Rattle.system_session.specs.ShownAnswers.{ShownAnswer, ShowsText}
 use Rattle.system_session.specs.State.{State}

@@ -24,9 +24,9 @@ use Rattle.program_tasks.specs.declared.tasks.Saving.TheVariants.{Never, AtEnd, 
 use Rattle.outcome.specs.declared.endings.Ending.{Ending}
 use Rattle.outcome.specs.declared.endings.Ending.TheVariants.{Fault, Failure, FullOutput, Unreported, NoReader}
 use Rattle.script8.specs.Reading.{MayReadNoMore, TakesBytes}
-use Rattle.script8.specs.declared.readings.TheConstants.{MOST}
-use Rattle.script8.specs.declared.faults.SessionFault.{SessionFault}
-use Rattle.script8.specs.declared.faults.SessionFault.TheVariants.{Memory, Reader, Writer}
+use Rattle.refusals.specs.declared.faults.TheConstants.{MOST}
+use Rattle.refusals.specs.declared.faults.SessionFault.{SessionFault}
+use Rattle.refusals.specs.declared.faults.SessionFault.TheVariants.{Memory, Reader, Writer}
 use Rattle.system_session.specs.Script.{RunsText}
 use Rattle.system_session.specs.Session.{SessionView, state_of}
 use Rattle.system_session.specs.ShownAnswers.{ShownAnswer, ShowsText}

@@ -15,8 +15,8 @@ use Rattle.image_kind.specs.declared.judging.Judgment.{Judgment}
 use Rattle.image_kind.specs.Parts.{HasBody, Parts, file_of}
 use Rattle.script8.specs.Replies.{answer_lines}
 use Rattle.script8.specs.declared.entries.Entry.{Entry}
-use Rattle.script8.specs.declared.faults.SessionFault.{SessionFault}
-use Rattle.script8.specs.declared.faults.SessionFault.TheVariants.{Memory}
+use Rattle.refusals.specs.declared.faults.SessionFault.{SessionFault}
+use Rattle.refusals.specs.declared.faults.SessionFault.TheVariants.{Memory}
 use Rattle.script8.specs.declared.replies.Reply.{Reply}
 use Rattle.script8.specs.declared.replies.Reply.TheVariants as reply
 use Rattle.script8.specs.declared.replies.LineReply.{LineReply}
@@ -222,12 +222,12 @@ pub record GetsImage (has_saved has_unsynced : Bool) (before after : Image) (dur
 abbrev pub IsUnwritten : Judgment → List ℕ → List ℕ → List ℕ → Ending → List Event → List Event → Type 0
 IsUnwritten judgment path name file ending old new = ((keeps_kind judgment file ≡ false) × RefusesKind judgment.is_plain file old ending new) ⊎ Writes content.Image path name file old (Err ending) new
 
--- An image could not be saved: memory was wanted for it; or the file may not be written, or has no room for it; or a call failed. Or the file
--- would be read as something else. Why is printed.
+-- An image could not be saved: memory was wanted for it; or the file may not be written, or has no room for it. Or its file is held, and a
+-- call failed, or the file would be read as something else. Why is printed.
 abbrev pub StaysUnsaved : Image → Ending → List Event → List Event → Type 0
 StaysUnsaved before ending old new = ((ending ≡ Fault Memory) × (new ≡ old))
     ⊎ (((ending ≡ NotWritten content.Image unwritten.AsItWas) × (why : Reason) × TellsReason why before.place.name.bytes.items old new)
-    ⊎ ((file : List ℕ) × IsUnwritten before.judgment before.place.path.bytes.items before.place.name.bytes.items file ending old new))
+    ⊎ ((before.place.is_held ≡ true) × (file : List ℕ) × IsUnwritten before.judgment before.place.path.bytes.items before.place.name.bytes.items file ending old new))
 
 -- What a step did after earlier ones, from the calls before it to those after it. Where a save failed, none is tried again. All lines
 -- that wait are printed at once.

@@ -2,7 +2,8 @@
 ghost use Rattle.std.specs.Prelude.{◌≡◌};
 ghost use Rattle.script_commands.specs.Steps.{changes};
 
-use script8::{LineReply, Reply, SessionFault};
+use refusals::SessionFault;
+use script8::{LineReply, Reply};
 
 /// Whether the image may be another after this answer; it is not where the console or a list of files was asked for, or a job was begun.
 pub(crate) fn may_have_changed(answer: &Result<Reply, SessionFault>) -> bool

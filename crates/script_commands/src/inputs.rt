@@ -1,9 +1,9 @@
 //! A reader of which it is known how many bytes it gave.
 ghost use Rattle.std.specs.Prelude.{◌≡◌, ◌<◌, true};
-ghost use Rattle.script8.specs.declared.readings.TheConstants.{MOST};
+ghost use Rattle.refusals.specs.declared.faults.TheConstants.{MOST};
 
 use byte_reader::ByteReader;
-use script8::readings::MOST;
+use refusals::MOST;
 use std::io;
 
 /// A reader that is lent, and how many bytes it gave.

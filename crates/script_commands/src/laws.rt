@@ -7,7 +7,7 @@ ghost use Rattle.program_tasks.specs.declared.forms.ImageForm.{ImageForm};
 ghost use Rattle.program_tasks.specs.declared.tasks.RunForm.{RunForm};
 ghost use Rattle.program_tasks.specs.declared.tasks.Saving.TheVariants.{Never};
 ghost use Rattle.script8.specs.declared.entries.Entry.{Entry};
-ghost use Rattle.script8.specs.declared.faults.SessionFault.{SessionFault};
+ghost use Rattle.refusals.specs.declared.faults.SessionFault.{SessionFault};
 ghost use Rattle.script8.specs.declared.replies.Reply.{Reply};
 ghost use Rattle.image_files.specs.Laws.{KeepsFiles};
 ghost use Rattle.image_files.specs.declared.images.Image.{Image};

@@ -16,7 +16,7 @@ use image_files::{Image, refuse_kind, tell_reason};
 use image_kind::{Judgment, PartedFile, keeps_kind};
 use outcome::{Content, Ending, FileNote, Reason};
 use program_tasks::Saving;
-use script8::SessionFault;
+use refusals::SessionFault;
 use std::alloc::Global;
 use std::mem;
 use volume_image::MemoryVolume;

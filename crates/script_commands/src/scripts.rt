@@ -27,7 +27,7 @@ use image_kind::Judgment;
 use os8_dir::DirFault;
 use outcome::{Ending, NameNote, Note};
 use program_tasks::{ImageForm, RunForm, Saving};
-use script8::SessionFault;
+use refusals::SessionFault;
 use std::alloc::Global;
 use system_session::Session;
 use volume_image::{ImageFault, MemoryVolume};

@@ -2,8 +2,9 @@
 
 use bin_tape::TapeFault;
 use os8_files::FileFault;
-use pal_asm::{AsmFault, Code};
-use script8::{Entry, JobEntry, SessionFault, put_reply};
+use pal_faults::{AsmFault, Code};
+use refusals::SessionFault;
+use script8::{Entry, JobEntry, put_reply};
 use std::alloc::Global;
 use word12::Word;
 

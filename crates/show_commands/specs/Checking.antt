@@ -2,7 +2,7 @@
 use Rattle.std.specs.Prelude.{ℕ, ◌+◌, Bool, true, false, nat_eq, ◌≡◌, ◌⊎◌, Result, Ok, Err, List, [], ◌∷◌, length, map}
 use Rattle.hosts.specs.Event.{Event, DropLeftovers, failed_call, leftovers_call, tell_call}
 use Rattle.hosts.specs.declared.faults.HostFault.{HostFault}
-use Rattle.script8.specs.declared.faults.SessionFault.TheVariants.{Memory}
+use Rattle.refusals.specs.declared.faults.SessionFault.TheVariants.{Memory}
 use Rattle.outcome.specs.Notes.{leftovers_text}
 use Rattle.program_reports.specs.Program.{program_line}
 use Rattle.program_reports.specs.declared.programs.ProgramLine.TheVariants as line

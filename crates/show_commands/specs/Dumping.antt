@@ -8,7 +8,7 @@ use Rattle.block_words.specs.declared.dumping.DumpForm.{DumpForm}
 use Rattle.block_words.specs.declared.dumping.DumpForm.TheVariants.{Sixbit, Text}
 use Rattle.volume_image.specs.Image.{image_word}
 use Rattle.name_spelling.specs.Spelling.{text_of}
-use Rattle.script8.specs.declared.faults.SessionFault.TheVariants.{Memory}
+use Rattle.refusals.specs.declared.faults.SessionFault.TheVariants.{Memory}
 use Rattle.archive_files.specs.declared.faults.ArchiveFault.{ArchiveFault}
 use Rattle.archive_many.specs.Opened.{OpensVolume, files_on}
 use Rattle.archive_many.specs.declared.opened.VolumeFile.{VolumeFile}

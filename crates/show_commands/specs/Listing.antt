@@ -15,7 +15,7 @@ use Rattle.image_files.specs.Ending.{EndsSound}
 use Rattle.image_files.specs.Reading.{LooksAt}
 use Rattle.image_files.specs.Answers.{Answers, AreLines}
 use Rattle.image_files.specs.Saving.{Prints}
-use Rattle.asked_files.specs.Refusals.{refusal_for}
+use Rattle.asked_files.specs.UnfoundWords.{refusal_for}
 use Rattle.asked_files.specs.Wishing.{AreWished}
 
 -- ## Words of no file

@@ -5,7 +5,7 @@ use Rattle.hosts.specs.Event.{Event}
 use Rattle.volume_image.specs.Image.{ReadsImage}
 use Rattle.volume_image.specs.declared.faults.ImageFault.{ImageFault}
 use Rattle.volume_image.specs.declared.faults.ImageFault.TheVariants as image
-use Rattle.script8.specs.declared.faults.SessionFault.TheVariants.{Memory}
+use Rattle.refusals.specs.declared.faults.SessionFault.TheVariants.{Memory}
 use Rattle.archive_files.specs.Checking.{Checks}
 use Rattle.archive_files.specs.Listing.{ListsFiles}
 use Rattle.archive_files.specs.declared.faults.ArchiveFault.{ArchiveFault}

@@ -9,7 +9,7 @@ use Rattle.image_kind.specs.Volumes.{volumes_in}
 use Rattle.image_kind.specs.declared.margins.Margins.{Margins}
 use Rattle.image_kind.specs.declared.volumes.Volumes.{Volumes}
 use Rattle.image_kind.specs.declared.volumes.Volumes.TheVariants.{One, Both}
-use Rattle.script8.specs.declared.faults.SessionFault.TheVariants.{Memory}
+use Rattle.refusals.specs.declared.faults.SessionFault.TheVariants.{Memory}
 use Rattle.outcome.specs.Notes.{margins_text}
 use Rattle.outcome.specs.declared.endings.Ending.{Ending}
 use Rattle.outcome.specs.declared.endings.Ending.TheVariants.{Fault}

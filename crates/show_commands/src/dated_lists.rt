@@ -3,7 +3,7 @@ ghost use Rattle.std.specs.Prelude.{◌≡◌, ◌+◌, ◌≤◌, ◌<◌, ◌�
 ghost use Rattle.word12.specs.declared.sizes.TheConstants.{MOST_BLOCKS};
 ghost use Rattle.os8_dates.specs.declared.years.TheConstants.{LAST_YEAR, LEAST_LAST};
 ghost use Rattle.os8_dir.specs.Entries.{total};
-ghost use Rattle.script8.specs.Replies.{free_line};
+ghost use Rattle.refusals.specs.Listed.{free_line};
 ghost use Rattle.name_spelling.specs.Spelling.{text_of};
 ghost use Rattle.archive_files.specs.LongListing.{information_text};
 ghost use Rattle.show_commands.specs.Dates as spec;
@@ -16,7 +16,7 @@ use block_words::put_number;
 use name_spelling::{is_chosen_by, put_name};
 use os8_dates::{date_of, put_date};
 use os8_dir::{DirEntry, DirFault, Directory, Name};
-use script8::SessionFault;
+use refusals::SessionFault;
 use std::alloc::{AllocError, Global};
 use volume_index::last_in;
 use word12::Word;

@@ -16,7 +16,7 @@ use hosts::Host;
 use image_files::{end_sound, named_lines, part_after, print, refuse_image};
 use outcome::Ending;
 use program_reports::{ProgramLine, put_program};
-use script8::SessionFault;
+use refusals::SessionFault;
 use std::alloc::Global;
 use volume_image::ImageFault;
 

@@ -4,9 +4,9 @@ use Rattle.std.proofs.lemmas.List.{length-take-le}
 use Rattle.std.specs.Borrow.{Bor}
 use Rattle.pal_lex.specs.Text.{ends_statement, stretch, line_after, text_from, text_of}
 use Rattle.pal_lex.specs.Statements.{statements, judge_statement, radix_after}
-use Rattle.pal_lex.specs.declared.faults.LexFault.{LexFault}
+use Rattle.pal_faults.specs.declared.lexical.LexFault.{LexFault}
 use Rattle.pal_lex.specs.declared.phrases.Statement.{Statement}
-use Rattle.pal_asm.specs.declared.faults.Code.{Code}
+use Rattle.pal_faults.specs.declared.assembling.Code.{Code}
 use Rattle.pal_asm.specs.Faults.{first_of, at_line, first_order}
 use Rattle.host_sources.specs.Answers.{IsAssemblyOf}
 use Rattle.host_sources.specs.declared.assembling.Assembly.{Assembly}

@@ -6,8 +6,8 @@ use Rattle.word12.specs.Sixbit.{is_digit, is_letter, sixbit_code}
 use Rattle.pal_sym.specs.Names.{all_coded, is_name, name_number}
 use Rattle.source_names.specs.Laws.{AreDifferent, AreGiven, IsGiven, visible_name}
 use Rattle.source_names.specs.Names.{AreNames, cell_in, Entry, has_tag_form, is_taken, lines_from, name_at, name_in, names_cell, names_number, Reading, says_nothing, short_name, six_places, why_refused, why_taken, with_entry, with_line, with_lines}
-use Rattle.source_names.specs.declared.faults.LineRefusal.{LineRefusal}
-use Rattle.source_names.specs.declared.faults.LineRefusal.TheVariants.{Permanent, Tag, Twice, NoCell}
+use Rattle.pal_faults.specs.declared.names.LineRefusal.{LineRefusal}
+use Rattle.pal_faults.specs.declared.names.LineRefusal.TheVariants.{Permanent, Tag, Twice, NoCell}
 use Rattle.source_names.specs.declared.faults.NamesFault.{NamesFault}
 use Rattle.source_names.proofs.NameLemmas.{number_is}
 

@@ -13,8 +13,8 @@ use Rattle.pal_sym.specs.Values.{if_none, symbol_value}
 use Rattle.flow8.specs.Flow.{word_in}
 use Rattle.source_names.specs.Names.{AreNames, cell_in, Entry, has_tag_form, is_taken, IsFault, last_line, lines_from, name_at, name_in, names_cell, names_number, Reading, read_of, says_nothing, short_name, six_places, why_refused, why_taken, with_entry, with_line, with_lines, without_return}
 use Rattle.source_names.specs.Steps.{Holds, line_length, TakesLine, TakesText}
-use Rattle.source_names.specs.declared.faults.LineRefusal.{LineRefusal}
-use Rattle.source_names.specs.declared.faults.LineRefusal.TheVariants.{Permanent, Tag, Twice, NoCell}
+use Rattle.pal_faults.specs.declared.names.LineRefusal.{LineRefusal}
+use Rattle.pal_faults.specs.declared.names.LineRefusal.TheVariants.{Permanent, Tag, Twice, NoCell}
 use Rattle.source_names.specs.declared.faults.NamesFault.{NamesFault}
 use Rattle.source_names.specs.declared.faults.NamesFault.TheVariants.{At, Memory}
 

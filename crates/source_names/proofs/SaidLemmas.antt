@@ -3,7 +3,7 @@ use Rattle.std.proofs.Common.{◌≡◌, ℕ, ◌+◌, nat_eq, Bool, true, false
 use Rattle.std.proofs.lemmas.List.{reverse-append}
 use Rattle.source_names.specs.Names.{AreNames, cell_in, lines_from, name_at, name_in, names_cell, names_number, Reading, read_of, says_nothing, short_name, six_places, why_refused, why_taken, with_entry, with_line, with_lines}
 use Rattle.source_names.specs.Said.{AreSaid, AreTaken, is_this, IsFirstRefused, refusal_after, name_said, say_either, why_after}
-use Rattle.source_names.specs.declared.faults.LineRefusal.{LineRefusal}
+use Rattle.pal_faults.specs.declared.names.LineRefusal.{LineRefusal}
 use Rattle.source_names.specs.declared.faults.NamesFault.{NamesFault}
 use Rattle.source_names.specs.declared.faults.NamesFault.TheVariants.{At, Memory}
 use Rattle.source_names.proofs.NameLemmas.{number_is, sticks}

@@ -5,8 +5,8 @@ use Rattle.word12.specs.Octal.{octal_of}
 use Rattle.pal_lex.specs.Language.{is_reserved}
 use Rattle.pal_sym.specs.Names.{name_number, name_of}
 use Rattle.pal_sym.specs.Permanent.{permanent}
-use Rattle.source_names.specs.declared.faults.LineRefusal.{LineRefusal}
-use Rattle.source_names.specs.declared.faults.LineRefusal.TheVariants.{BadLine, NoName, Permanent, Tag, Twice, NoCell}
+use Rattle.pal_faults.specs.declared.names.LineRefusal.{LineRefusal}
+use Rattle.pal_faults.specs.declared.names.LineRefusal.TheVariants.{BadLine, NoName, Permanent, Tag, Twice, NoCell}
 use Rattle.source_names.specs.declared.faults.NamesFault.{NamesFault}
 use Rattle.source_names.specs.declared.faults.NamesFault.TheVariants.{At, Memory}
 

@@ -2,8 +2,8 @@
 use Rattle.std.specs.Prelude.{◌≡◌, ◌<◌, ◌+◌, ℕ, nat_eq, Bool, false, ◌&&◌, ◌||◌, not, if◌then◌else◌, Option, Some, None, List, [], ◌∷◌, ◌++◌, length, reverse, slice_index_or}
 use Rattle.word12.specs.declared.sizes.TheConstants.{CORE}
 use Rattle.source_names.specs.Names.{cell_in, name_in, says_nothing, short_name, six_places, why_taken}
-use Rattle.source_names.specs.declared.faults.LineRefusal.{LineRefusal}
-use Rattle.source_names.specs.declared.faults.LineRefusal.TheVariants.{BadLine, NoName}
+use Rattle.pal_faults.specs.declared.names.LineRefusal.{LineRefusal}
+use Rattle.pal_faults.specs.declared.names.LineRefusal.TheVariants.{BadLine, NoName}
 
 abbrev pub is_this : Option ℕ → ℕ → Bool
 is_this None number = false

@@ -5,7 +5,7 @@ ghost use Rattle.source_names.specs.Laws.{AreDifferent, AreGiven};
 ghost use Rattle.source_names.specs.Names.{AreNames, IsFault, lines_from, short_name};
 ghost use Rattle.source_names.specs.Said.{AreSaid, IsFirstRefused};
 ghost use Rattle.source_names.specs.declared.faults.NamesFault.TheVariants.{At};
-ghost use Rattle.source_names.specs.declared.faults.LineRefusal.{LineRefusal};
+ghost use Rattle.pal_faults.specs.declared.names.LineRefusal.{LineRefusal};
 
 /// Each name that a text gives is a name as PAL has it, no symbol of the language, and no tag. Its cell has a word, and no two cells have
 /// the same name. So a listing by these names assembles to the words that it lists.

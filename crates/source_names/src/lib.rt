@@ -10,6 +10,7 @@ mod lines;
 mod names;
 mod reserved;
 
-pub use faults::{LineRefusal, NamesFault};
+pub use faults::NamesFault;
 pub use lines::visible_name;
 pub use names::{CellNames, names_of};
+pub use pal_faults::LineRefusal;

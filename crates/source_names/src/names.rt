@@ -7,12 +7,13 @@ ghost use Rattle.flow8.specs.Flow.{word_in};
 ghost use Rattle.source_names.specs.Names.{AreNames, Entry, IsFault, Reading, why_taken};
 ghost use Rattle.source_names.specs.Steps.{Holds, TakesLine, TakesText};
 
-use crate::faults::{LineRefusal, NamesFault};
+use crate::faults::NamesFault;
 use crate::lines::{
     cell_in, has_tag_form, line_length, name_in, says_nothing, short_name, six_places,
     without_return,
 };
 use crate::reserved::is_taken;
+use pal_faults::LineRefusal;
 use pal_sym::{SymbolName, Symbols};
 use std::alloc::{AllocError, Global};
 use std::marker::Model;

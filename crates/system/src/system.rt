@@ -1,5 +1,5 @@
-//! The system that the program runs in. Each method makes the call that it is named for, and then notes it with its answer. The prover shows
-//! that each method notes itself, and its answer, once. It can't show that the call was made: the files of this crate are read for that.
+//! The system that the program runs in. Each method makes the call that it is named for. `hosts::Recorded` then notes that, with its answer,
+//! once, as the prover shows. It can't show that the call was made: the files of this crate are read for that.
 //!
 //! What a reader believes of the calls, in the terms of `hosts`' page of places:
 //! - `resolve`: `realpath`. The path that it gives has no link in it.
@@ -42,20 +42,10 @@
 //! - `print`, `tell`: `write` to 1 and to 2 until all bytes are written. A failed one may have written some.
 //! - `seconds`: the clock that only goes on. `pause`: `clock_nanosleep`. `word`: a word that the program was started with, which the kernel
 //!   has laid into its memory; it ends before the first byte 0.
-ghost use Rattle.std.specs.Prelude.{◌≡◌, []};
-ghost use Rattle.hosts.specs.Raw.{events_of};
-
 use crate::opened::Opened;
 use crate::terminals::{Outputs, is_terminal};
 use crate::{files, leftovers, same};
-use hosts::notes::{
-    ALONE, CLAIM, DATE_BESIDE, DROP_BESIDE, DROP_CLAIM, DROP_LEFTOVERS, DROP_SECONDS, END_OF_WORDS,
-    FINISH_OVER, FREE, HOLD, LEADS, LINK_NEW, LOCK_BESIDE, LOOK, MAKE_BESIDE, MAKE_FOLDER,
-    OWN_BESIDE, PAUSE, PRINT, RENAME, RESOLVE, SAME, SECONDS, SYNC_BESIDE, SYNC_FOLDER, TAKE_INPUT,
-    TELL, TERMINAL, THERE, TIME_OF, WORD, WRITE_BESIDE, WRITE_OVER, fault_number, link_number,
-    number, rename_number,
-};
-use hosts::{Host, HostFault, LinkFault, PrintFault, Record, RenameFault, Stream};
+use hosts::{HostFault, LinkFault, PrintFault, RawHost, RenameFault, Stream};
 use std::alloc::{AllocError, Global};
 use std::env::Env;
 use std::fs::{self, File, Files};
@@ -69,18 +59,14 @@ pub struct System<'a, R> {
     rt: &'a R,
     files: Opened,
     start: Option<Instant>,
-    log: Record,
 }
 
 impl<'a, R: Files<File = File> + AllocGlobal> System<'a, R> {
-    pub fn new(rt: &'a R) -> System<'a, R>
-        ensures { events_of result.log.events ≡ [] }
-    {
+    pub fn new(rt: &'a R) -> System<'a, R> {
         System {
             rt,
             files: Opened::new(rt.alloc()),
             start: None,
-            log: Record::new(),
         }
     }
 }
@@ -96,392 +82,143 @@ impl<
         + Clock
         + RandomSource
         + AllocGlobal,
-> Host for System<'a, R>
+> RawHost for System<'a, R>
 where
     R::Reader: IsTerminal,
 {
-    ghost history = { λ s. events_of s.log.events };
-
     fn resolve(&mut self, alloc: Global, name: &str) -> Result<String, HostFault> {
-        let done = files::path_of(self.rt, alloc, name);
-        match &done {
-            Ok(it) => self
-                .log
-                .note(&[RESOLVE, 1, 0], name.as_bytes(), it.as_bytes()),
-            Err(fault) => self
-                .log
-                .note(&[RESOLVE, 0, fault_number(fault)], name.as_bytes(), &[]),
-        }
-        done
+        files::path_of(self.rt, alloc, name)
     }
 
     fn hold(&mut self, alloc: Global, path: &str) -> Result<bool, HostFault> {
-        let done = self.files.hold(self.rt, alloc, path);
-        match &done {
-            Ok(has_lock) => self
-                .log
-                .note(&[HOLD, 1, u64::from(*has_lock)], path.as_bytes(), &[]),
-            Err(fault) => self
-                .log
-                .note(&[HOLD, 0, fault_number(fault)], path.as_bytes(), &[]),
-        }
-        done
+        self.files.hold(self.rt, alloc, path)
     }
 
     fn drop_seconds(&mut self, path: &str) -> Result<(), HostFault> {
-        let done = self.files.drop_seconds(self.rt, path);
-        match &done {
-            Ok(()) => self.log.note(&[DROP_SECONDS, 1, 0], path.as_bytes(), &[]),
-            Err(fault) => self.log.note(
-                &[DROP_SECONDS, 0, fault_number(fault)],
-                path.as_bytes(),
-                &[],
-            ),
-        }
-        done
+        self.files.drop_seconds(self.rt, path)
     }
 
     fn drop_leftovers(&mut self, alloc: Global, name: &str) -> Result<usize, HostFault> {
-        let done = leftovers::remove_leftovers(self.rt, alloc, name);
-        match &done {
-            Ok(count) => self
-                .log
-                .note(&[DROP_LEFTOVERS, 1, *count as u64], name.as_bytes(), &[]),
-            Err(fault) => self.log.note(
-                &[DROP_LEFTOVERS, 0, fault_number(fault)],
-                name.as_bytes(),
-                &[],
-            ),
-        }
-        done
+        leftovers::remove_leftovers(self.rt, alloc, name)
     }
 
     fn look_held(&mut self, alloc: Global, path: &str, most: usize) -> Result<Vec<u8>, HostFault> {
-        let done = self.files.look(alloc, path, most);
-        match &done {
-            Ok(it) => self.log.note(&[LOOK, 1, 0], path.as_bytes(), it),
-            Err(fault) => self
-                .log
-                .note(&[LOOK, 0, fault_number(fault)], path.as_bytes(), &[]),
-        }
-        done
+        self.files.look(alloc, path, most)
     }
 
     fn look(&mut self, alloc: Global, name: &str, most: usize) -> Result<Vec<u8>, HostFault> {
-        let done = files::file_bytes(self.rt, alloc, name, most);
-        match &done {
-            Ok(it) => self.log.note(&[LOOK, 1, 0], name.as_bytes(), it),
-            Err(fault) => self
-                .log
-                .note(&[LOOK, 0, fault_number(fault)], name.as_bytes(), &[]),
-        }
-        done
+        files::file_bytes(self.rt, alloc, name, most)
     }
 
     fn take_input(&mut self, alloc: Global, most: usize) -> Result<Vec<u8>, HostFault> {
-        let done = files::input_bytes(self.rt, alloc, most);
-        match &done {
-            Ok(it) => self.log.note(&[TAKE_INPUT, 1, 0], &[], it),
-            Err(fault) => self
-                .log
-                .note(&[TAKE_INPUT, 0, fault_number(fault)], &[], &[]),
-        }
-        done
+        files::input_bytes(self.rt, alloc, most)
     }
 
     fn is_alone(&mut self, path: &str) -> Result<bool, HostFault> {
-        let done = self.files.is_alone(path);
-        match &done {
-            Ok(is) => self
-                .log
-                .note(&[ALONE, 1, u64::from(*is)], path.as_bytes(), &[]),
-            Err(fault) => self
-                .log
-                .note(&[ALONE, 0, fault_number(fault)], path.as_bytes(), &[]),
-        }
-        done
+        self.files.is_alone(path)
     }
 
     fn leads_to_held(&mut self, path: &str) -> bool {
-        let is = self.files.leads(self.rt, path);
-        self.log
-            .note(&[LEADS, u64::from(is), 0], path.as_bytes(), &[]);
-        is
+        self.files.leads(self.rt, path)
     }
 
     fn make_beside(&mut self, alloc: Global, path: &str) -> Result<(), HostFault> {
-        let done = self.files.make_beside(self.rt, alloc, path);
-        match &done {
-            Ok(()) => self.log.note(&[MAKE_BESIDE, 1, 0], path.as_bytes(), &[]),
-            Err(fault) => self.log.note(
-                &[MAKE_BESIDE, 0, fault_number(fault)],
-                path.as_bytes(),
-                &[],
-            ),
-        }
-        done
+        self.files.make_beside(self.rt, alloc, path)
     }
 
     fn own_beside(&mut self, path: &str) -> Result<(), HostFault> {
-        let done = self.files.own_beside(path);
-        match &done {
-            Ok(()) => self.log.note(&[OWN_BESIDE, 1, 0], path.as_bytes(), &[]),
-            Err(fault) => self.log.note(
-                &[OWN_BESIDE, 0, fault_number(fault)],
-                path.as_bytes(),
-                &[],
-            ),
-        }
-        done
+        self.files.own_beside(path)
     }
 
-    fn lock_beside(&mut self, path: &str) -> Result<(), HostFault> {
-        let done = self.files.lock_beside();
-        match &done {
-            Ok(()) => self.log.note(&[LOCK_BESIDE, 1, 0], path.as_bytes(), &[]),
-            Err(fault) => self.log.note(
-                &[LOCK_BESIDE, 0, fault_number(fault)],
-                path.as_bytes(),
-                &[],
-            ),
-        }
-        done
+    fn lock_beside(&mut self, _path: &str) -> Result<(), HostFault> {
+        self.files.lock_beside()
     }
 
-    fn write_beside(&mut self, path: &str, bytes: &[u8]) -> Result<(), HostFault> {
-        let done = self.files.write_beside(bytes);
-        match &done {
-            Ok(()) => self.log.note(&[WRITE_BESIDE, 1, 0], path.as_bytes(), bytes),
-            Err(fault) => self.log.note(
-                &[WRITE_BESIDE, 0, fault_number(fault)],
-                path.as_bytes(),
-                &[],
-            ),
-        }
-        done
+    fn write_beside(&mut self, _path: &str, bytes: &[u8]) -> Result<(), HostFault> {
+        self.files.write_beside(bytes)
     }
 
-    fn date_beside(&mut self, path: &str, seconds: u64) -> Result<(), HostFault> {
-        let done = self.files.date_beside(seconds);
-        self.log.note(&[DATE_BESIDE, number(&done), seconds], path.as_bytes(), &[]);
-        done
+    fn date_beside(&mut self, _path: &str, seconds: u64) -> Result<(), HostFault> {
+        self.files.date_beside(seconds)
     }
 
-    fn sync_beside(&mut self, path: &str) -> Result<(), HostFault> {
-        let done = self.files.sync_beside();
-        match &done {
-            Ok(()) => self.log.note(&[SYNC_BESIDE, 1, 0], path.as_bytes(), &[]),
-            Err(fault) => self.log.note(
-                &[SYNC_BESIDE, 0, fault_number(fault)],
-                path.as_bytes(),
-                &[],
-            ),
-        }
-        done
+    fn sync_beside(&mut self, _path: &str) -> Result<(), HostFault> {
+        self.files.sync_beside()
     }
 
-    fn drop_beside(&mut self, path: &str) -> Result<(), HostFault> {
-        let done = self.files.drop_beside(self.rt);
-        match &done {
-            Ok(()) => self.log.note(&[DROP_BESIDE, 1, 0], path.as_bytes(), &[]),
-            Err(fault) => self.log.note(
-                &[DROP_BESIDE, 0, fault_number(fault)],
-                path.as_bytes(),
-                &[],
-            ),
-        }
-        done
+    fn drop_beside(&mut self, _path: &str) -> Result<(), HostFault> {
+        self.files.drop_beside(self.rt)
     }
 
     fn rename(&mut self, path: &str) -> Result<(), RenameFault> {
-        let done = self.files.rename(self.rt, path);
-        match &done {
-            Ok(()) => self.log.note(&[RENAME, 1, 0], path.as_bytes(), &[]),
-            Err(fault) => self
-                .log
-                .note(&[RENAME, 0, rename_number(fault)], path.as_bytes(), &[]),
-        }
-        done
+        self.files.rename(self.rt, path)
     }
 
     fn link_new(&mut self, path: &str) -> Result<(), LinkFault> {
-        let done = self.files.link(self.rt, path);
-        match &done {
-            Ok(()) => self.log.note(&[LINK_NEW, 1, 0], path.as_bytes(), &[]),
-            Err(fault) => self
-                .log
-                .note(&[LINK_NEW, 0, link_number(fault)], path.as_bytes(), &[]),
-        }
-        done
+        self.files.link(self.rt, path)
     }
 
     fn claim(&mut self, path: &str) -> Result<(), HostFault> {
-        let done = self.files.claim(self.rt, path);
-        match &done {
-            Ok(()) => self.log.note(&[CLAIM, 1, 0], path.as_bytes(), &[]),
-            Err(fault) => self
-                .log
-                .note(&[CLAIM, 0, fault_number(fault)], path.as_bytes(), &[]),
-        }
-        done
+        self.files.claim(self.rt, path)
     }
 
     fn drop_claim(&mut self, path: &str) -> Result<(), HostFault> {
-        let done = self.files.drop_claim(self.rt, path);
-        match &done {
-            Ok(()) => self.log.note(&[DROP_CLAIM, 1, 0], path.as_bytes(), &[]),
-            Err(fault) => self.log.note(
-                &[DROP_CLAIM, 0, fault_number(fault)],
-                path.as_bytes(),
-                &[],
-            ),
-        }
-        done
+        self.files.drop_claim(self.rt, path)
     }
 
     fn sync_folder(&mut self, path: &str) -> Result<(), HostFault> {
-        let done = files::answer(files::folder_synced(self.rt, path));
-        match &done {
-            Ok(()) => self.log.note(&[SYNC_FOLDER, 1, 0], path.as_bytes(), &[]),
-            Err(fault) => self.log.note(
-                &[SYNC_FOLDER, 0, fault_number(fault)],
-                path.as_bytes(),
-                &[],
-            ),
-        }
-        done
+        files::answer(files::folder_synced(self.rt, path))
     }
 
     fn write_over(&mut self, path: &str, at: usize, bytes: &[u8]) -> Result<(), HostFault> {
-        let done = self.files.write_over(path, at, bytes);
-        match &done {
-            Ok(()) => self
-                .log
-                .note(&[WRITE_OVER, 1, at as u64], path.as_bytes(), bytes),
-            Err(fault) => self.log.note(
-                &[WRITE_OVER, 0, fault_number(fault)],
-                path.as_bytes(),
-                &[],
-            ),
-        }
-        done
+        self.files.write_over(path, at, bytes)
     }
 
     fn finish_over(&mut self, path: &str, size: usize) -> Result<(), HostFault> {
-        let done = self.files.finish_over(path, size);
-        match &done {
-            Ok(()) => self
-                .log
-                .note(&[FINISH_OVER, 1, size as u64], path.as_bytes(), &[]),
-            Err(fault) => self.log.note(
-                &[FINISH_OVER, 0, fault_number(fault)],
-                path.as_bytes(),
-                &[],
-            ),
-        }
-        done
+        self.files.finish_over(path, size)
     }
 
     fn free_path(&mut self, alloc: Global, name: &str) -> Result<String, HostFault> {
-        let done = files::free_path(self.rt, alloc, name);
-        match &done {
-            Ok(it) => self.log.note(&[FREE, 1, 0], name.as_bytes(), it.as_bytes()),
-            Err(fault) => self
-                .log
-                .note(&[FREE, 0, fault_number(fault)], name.as_bytes(), &[]),
-        }
-        done
+        files::free_path(self.rt, alloc, name)
     }
 
     fn is_there(&mut self, name: &str) -> bool {
-        let is = fs::symlink_metadata(self.rt, name).is_ok();
-        self.log
-            .note(&[THERE, u64::from(is), 0], name.as_bytes(), &[]);
-        is
+        fs::symlink_metadata(self.rt, name).is_ok()
     }
 
     fn time_of(&mut self, name: &str) -> Result<u64, HostFault> {
-        let done = files::time_of(self.rt, name);
-        match &done {
-            Ok(seconds) => self.log.note(&[TIME_OF, 1, *seconds], name.as_bytes(), &[]),
-            Err(fault) => self
-                .log
-                .note(&[TIME_OF, 0, fault_number(fault)], name.as_bytes(), &[]),
-        }
-        done
+        files::time_of(self.rt, name)
     }
 
     fn leads_to_same(&mut self, alloc: Global, one: &str, other: &str) -> Result<bool, HostFault> {
-        let done = same::leads_to_same(self.rt, alloc, one, other);
-        match &done {
-            Ok(is) => self.log.note(&[SAME, 1, u64::from(*is)], one.as_bytes(), other.as_bytes()),
-            Err(fault) => self.log.note(
-                &[SAME, 0, fault_number(fault)],
-                one.as_bytes(),
-                other.as_bytes(),
-            ),
-        }
-        done
+        same::leads_to_same(self.rt, alloc, one, other)
     }
 
     fn make_folder(&mut self, name: &str) -> Result<(), HostFault> {
-        let done = files::folder_made(self.rt, name);
-        match &done {
-            Ok(()) => self.log.note(&[MAKE_FOLDER, 1, 0], name.as_bytes(), &[]),
-            Err(fault) => self.log.note(
-                &[MAKE_FOLDER, 0, fault_number(fault)],
-                name.as_bytes(),
-                &[],
-            ),
-        }
-        done
+        files::folder_made(self.rt, name)
     }
 
     fn print(&mut self, bytes: &[u8]) -> Result<(), PrintFault> {
-        let done = files::print_bytes(self.rt, bytes);
-        match &done {
-            Ok(()) => self.log.note(&[PRINT, 1, 0], &[], bytes),
-            Err(PrintFault::Abandoned) => self.log.note(&[PRINT, 0, 1], &[], bytes),
-            Err(PrintFault::Failed) => self.log.note(&[PRINT, 0, 0], &[], bytes),
-        }
-        done
+        files::print_bytes(self.rt, bytes)
     }
 
     fn tell(&mut self, text: &str) -> Result<(), HostFault> {
-        let done = files::answer(self.rt.eprint(text));
-        self.log
-            .note(&[TELL, number(&done), 0], &[], text.as_bytes());
-        done
+        files::answer(self.rt.eprint(text))
     }
 
     fn is_terminal(&mut self, stream: Stream) -> bool {
-        let is = is_terminal(self.rt, stream);
-        match stream {
-            Stream::Input => self.log.note(&[TERMINAL, u64::from(is), 0], &[], &[]),
-            Stream::Output => self.log.note(&[TERMINAL, u64::from(is), 1], &[], &[]),
-            Stream::Errors => self.log.note(&[TERMINAL, u64::from(is), 2], &[], &[]),
-        }
-        is
+        is_terminal(self.rt, stream)
     }
 
     fn seconds(&mut self) -> u64 {
-        let passed = files::seconds_since(self.rt, &mut self.start);
-        self.log.note(&[SECONDS, 1, passed], &[], &[]);
-        passed
+        files::seconds_since(self.rt, &mut self.start)
     }
 
     fn pause(&mut self) {
         files::pause(self.rt);
-        self.log.note(&[PAUSE, 1, 0], &[], &[]);
     }
 
     fn word(&mut self, alloc: Global, place: usize) -> Result<Option<Vec<u8>>, AllocError> {
-        let done = files::given_word(self.rt, alloc, place);
-        match &done {
-            Ok(Some(word)) => self.log.note(&[WORD, 1, place as u64], &[], word),
-            Ok(None) => self.log.note(&[END_OF_WORDS, 1, place as u64], &[], &[]),
-            Err(_) => self.log.note(&[WORD, 0, 2], &[], &[]),
-        }
-        done
+        files::given_word(self.rt, alloc, place)
     }
 }

@@ -1,7 +1,7 @@
 -- Runs of entries.
 use Rattle.std.proofs.Common.{ℕ, arith, IsErrOf, OnOk, true≢false, ◌≡◌, ◌≢◌, ◌+◌, refl, sym, ◌∙◌, ap, subst, true, false, List, [], ◌∷◌, ◌++◌, Result, Ok, Err}
 use Rattle.script8.specs.declared.entries.Entry.{Entry}
-use Rattle.script8.specs.declared.faults.SessionFault.TheVariants as fault
+use Rattle.refusals.specs.declared.faults.SessionFault.TheVariants as fault
 use Rattle.system_session.specs.Refusals.{MayLack}
 use Rattle.system_session.specs.State.{State}
 use Rattle.system_session.specs.System.{Answer, MayAnswer, Run}

@@ -20,7 +20,7 @@ use Rattle.script8.specs.declared.entries.Entry.{Entry}
 use Rattle.script8.specs.declared.entries.Entry.TheVariants as entry
 use Rattle.script8.specs.declared.entries.JobEntry.{JobEntry}
 use Rattle.script8.specs.declared.entries.JobEntry.TheVariants as order
-use Rattle.script8.specs.declared.faults.SessionFault.TheVariants as fault
+use Rattle.refusals.specs.declared.faults.SessionFault.TheVariants as fault
 use Rattle.script8.specs.declared.replies.Reply.TheVariants.{Line}
 use Rattle.script8.specs.declared.replies.LineReply.TheVariants as line
 use Rattle.system_session.specs.Files.{name_before, parsed_names}

@@ -2,8 +2,8 @@
 use Rattle.std.proofs.Common.{◌≡◌, ◌⊎◌, inl, inr, None, Err, refl, sym, ◌∙◌, ap}
 use Rattle.script8.specs.Replies.{job_of_entry}
 use Rattle.script8.specs.declared.entries.Entry.{Entry}
-use Rattle.script8.specs.declared.faults.SessionFault.{SessionFault}
-use Rattle.script8.specs.declared.faults.SessionFault.TheVariants as fault
+use Rattle.refusals.specs.declared.faults.SessionFault.{SessionFault}
+use Rattle.refusals.specs.declared.faults.SessionFault.TheVariants as fault
 use Rattle.system_session.specs.Refusals.{after_refusal, jobs_without}
 use Rattle.system_session.specs.State.{State}
 use Rattle.system_session.specs.System.{MayAnswer}

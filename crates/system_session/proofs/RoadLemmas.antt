@@ -26,8 +26,8 @@ use Rattle.script8.specs.declared.entries.FileEntry.{FileEntry}
 use Rattle.script8.specs.declared.entries.FileEntry.TheVariants as filing
 use Rattle.script8.specs.declared.entries.JobEntry.{JobEntry}
 use Rattle.script8.specs.declared.entries.JobEntry.TheVariants as order
-use Rattle.script8.specs.declared.faults.SessionFault.{SessionFault}
-use Rattle.script8.specs.declared.faults.SessionFault.TheVariants as fault
+use Rattle.refusals.specs.declared.faults.SessionFault.{SessionFault}
+use Rattle.refusals.specs.declared.faults.SessionFault.TheVariants as fault
 use Rattle.script8.specs.declared.replies.Reply.{Reply}
 use Rattle.script8.specs.declared.replies.Reply.TheVariants.{Line, Report}
 use Rattle.script8.specs.declared.replies.Report.TheVariants as report

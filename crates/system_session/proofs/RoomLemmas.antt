@@ -7,9 +7,9 @@ use Rattle.os8_dir.specs.declared.file_faults.FileFault.TheVariants as file
 use Rattle.volume_jobs.specs.Calls as calls
 use Rattle.volume_jobs.specs.declared.faults.JobFault.{JobFault}
 use Rattle.volume_jobs.specs.declared.faults.JobFault.TheVariants as job
-use Rattle.script8.specs.Faults.{fault_of_file}
-use Rattle.script8.specs.declared.faults.SessionFault.{SessionFault}
-use Rattle.script8.specs.declared.faults.SessionFault.TheVariants as fault
+use Rattle.refusals.specs.Faults.{fault_of_file}
+use Rattle.refusals.specs.declared.faults.SessionFault.{SessionFault}
+use Rattle.refusals.specs.declared.faults.SessionFault.TheVariants as fault
 use Rattle.system_session.specs.Room.{IfFile}
 use Rattle.system_session.specs.Work.{fault_of_job}
 

@@ -20,12 +20,12 @@ use Rattle.volume_jobs.specs.Settled.{IsSettled}
 use Rattle.volume_jobs.specs.declared.kinds.Job as kept
 use Rattle.volume_jobs.specs.State as jobs
 use Rattle.volume_jobs.specs.State.{IsCrowded, IsFull}
-use Rattle.script8.specs.Faults.{fault_of_file}
+use Rattle.refusals.specs.Faults.{fault_of_file}
 use Rattle.script8.specs.declared.entries.ConsoleEntry.{ConsoleEntry}
 use Rattle.script8.specs.declared.entries.Entry.TheVariants as entry
 use Rattle.script8.specs.declared.entries.FileEntry.TheVariants as filing
-use Rattle.script8.specs.declared.faults.SessionFault.{SessionFault}
-use Rattle.script8.specs.declared.faults.SessionFault.TheVariants as fault
+use Rattle.refusals.specs.declared.faults.SessionFault.{SessionFault}
+use Rattle.refusals.specs.declared.faults.SessionFault.TheVariants as fault
 use Rattle.script8.specs.declared.replies.Reply.{Reply}
 use Rattle.script8.specs.declared.replies.Reply.TheVariants.{Line}
 use Rattle.script8.specs.declared.replies.LineReply.TheVariants.{Stored, Deleted}

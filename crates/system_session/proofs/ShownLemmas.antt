@@ -1,12 +1,13 @@
 -- What is shown of a run is a run.
 use Rattle.std.proofs.Common.{ℕ, ◌≡◌, refl, sym, ◌∙◌, ap, subst, if◌then◌else◌, Bool, true, false, List, [], ◌∷◌, ◌++◌, append-nil, Option, Some, None, Result, Ok, Err}
 use Rattle.std.specs.Io.KnownBytes.{Appends}
-use Rattle.script8.specs.Replies.{answer_lines, reply_lines, fault_line}
+use Rattle.script8.specs.Replies.{answer_lines, reply_lines}
+use Rattle.refusals.specs.Faults.{fault_line}
 use Rattle.script8.specs.declared.entries.Entry.{Entry}
 use Rattle.script8.specs.declared.entries.Entry.TheVariants as kinds
 use Rattle.script8.specs.declared.entries.JobEntry.TheVariants as order
-use Rattle.script8.specs.declared.faults.SessionFault.{SessionFault}
-use Rattle.script8.specs.declared.faults.SessionFault.TheVariants as fault
+use Rattle.refusals.specs.declared.faults.SessionFault.{SessionFault}
+use Rattle.refusals.specs.declared.faults.SessionFault.TheVariants as fault
 use Rattle.script8.specs.declared.items.Item.{Item}
 use Rattle.script8.specs.declared.items.Item.TheVariants.{Do, Finish, Refused}
 use Rattle.script8.specs.declared.replies.Reply.TheVariants.{Line}

@@ -3,8 +3,8 @@ use Rattle.std.proofs.Common.{arith, true, false, Bool, ℕ, ◌+◌, ◌≡◌,
 use Rattle.std.specs.Io.KnownBytes.{Appends, Consumes}
 use Rattle.std.proofs.KnownBytes.{Appends-nil}
 use Rattle.script8.specs.Items.{script_of, whole_of, HasNoItem, LeadsWith, GivesItems, WaitsForLines}
-use Rattle.script8.specs.declared.faults.SessionFault.{SessionFault}
-use Rattle.script8.specs.declared.faults.SessionFault.TheVariants as fault
+use Rattle.refusals.specs.declared.faults.SessionFault.{SessionFault}
+use Rattle.refusals.specs.declared.faults.SessionFault.TheVariants as fault
 use Rattle.script8.specs.declared.items.Item.{Item}
 use Rattle.script8.specs.Reading.{IsRead, IsReadWithin, TakesBytes}
 use Rattle.system_session.specs.Reading.{IsTaken}

@@ -16,8 +16,8 @@ use Rattle.script8.specs.declared.replies.Reply.TheVariants as reply
 use Rattle.script8.specs.declared.replies.Report.{Report}
 use Rattle.script8.specs.declared.replies.Report.TheVariants as report
 use Rattle.script8.specs.declared.replies.LineReply.TheVariants.{Finished}
-use Rattle.script8.specs.declared.faults.SessionFault.{SessionFault}
-use Rattle.script8.specs.declared.faults.SessionFault.TheVariants as fault
+use Rattle.refusals.specs.declared.faults.SessionFault.{SessionFault}
+use Rattle.refusals.specs.declared.faults.SessionFault.TheVariants as fault
 use Rattle.script8.specs.declared.items.Item.{Item}
 use Rattle.script8.specs.declared.items.Item.TheVariants.{Do, Finish, Refused}
 use Rattle.volume_jobs.specs.Jobs.{lowest_job}

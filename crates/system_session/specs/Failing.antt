@@ -10,8 +10,8 @@ use Rattle.script8.specs.declared.entries.FileEntry.{FileEntry}
 use Rattle.script8.specs.declared.entries.FileEntry.TheVariants as files
 use Rattle.script8.specs.declared.entries.JobEntry.{JobEntry}
 use Rattle.script8.specs.declared.entries.JobEntry.TheVariants as job
-use Rattle.script8.specs.declared.faults.SessionFault.{SessionFault}
-use Rattle.script8.specs.declared.faults.SessionFault.TheVariants.{BadLine, NoJob, File, BadText}
+use Rattle.refusals.specs.declared.faults.SessionFault.{SessionFault}
+use Rattle.refusals.specs.declared.faults.SessionFault.TheVariants.{BadLine, NoJob, File, BadText}
 use Rattle.system_session.specs.Files.{parsed_names}
 use Rattle.system_session.specs.Refusals.{IsOfNoForm, NamesFiles, after_refusal}
 use Rattle.system_session.specs.State.{State}

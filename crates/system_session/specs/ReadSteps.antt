@@ -3,8 +3,8 @@ use Rattle.std.specs.Prelude.{◌≡◌, ℕ, ◌+◌, ◌<◌, ◌≤◌, ◌�
 use Rattle.std.specs.Io.KnownBytes.{Consumes}
 use Rattle.script8.specs.Items.{WaitsForLines}
 use Rattle.script8.specs.Reading.{IsRead}
-use Rattle.script8.specs.declared.faults.SessionFault.{SessionFault}
-use Rattle.script8.specs.declared.faults.SessionFault.TheVariants.{Reader, Memory}
+use Rattle.refusals.specs.declared.faults.SessionFault.{SessionFault}
+use Rattle.refusals.specs.declared.faults.SessionFault.TheVariants.{Reader, Memory}
 
 -- The result of one read where so many bytes of a script may be read, and so many were. It is the reader's end, more bytes, of
 -- which so many lines are wanted, or a fault.

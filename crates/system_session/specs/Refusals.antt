@@ -19,8 +19,8 @@ use Rattle.script8.specs.declared.entries.JobEntry.{JobEntry}
 use Rattle.script8.specs.declared.entries.JobEntry.TheVariants as job
 use Rattle.word12.specs.declared.sizes.TheConstants.{MOST_SOURCES}
 use Rattle.script8.specs.declared.entries.ConsoleEntry.{ConsoleEntry}
-use Rattle.script8.specs.declared.faults.SessionFault.{SessionFault}
-use Rattle.script8.specs.declared.faults.SessionFault.TheVariants.{BadLine, File, BadText, TooManyJobs, TooManyBreaks}
+use Rattle.refusals.specs.declared.faults.SessionFault.{SessionFault}
+use Rattle.refusals.specs.declared.faults.SessionFault.TheVariants.{BadLine, File, BadText, TooManyJobs, TooManyBreaks}
 use Rattle.system_session.specs.Console.{IsBreakTooMany, TakesMemory, is_within_limits}
 use Rattle.system_session.specs.Files.{parsed_names, IsUnheld, DeleteRefused}
 use Rattle.system_session.specs.State.{Console, State}

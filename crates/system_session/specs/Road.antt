@@ -8,7 +8,7 @@ use Rattle.volume_jobs.specs.State.{words_among}
 use Rattle.script8.specs.declared.entries.Entry.{Entry}
 use Rattle.script8.specs.declared.entries.Entry.TheVariants as entry
 use Rattle.script8.specs.declared.entries.JobEntry.TheVariants.{Turn}
-use Rattle.script8.specs.declared.faults.SessionFault.TheVariants.{Tape}
+use Rattle.refusals.specs.declared.faults.SessionFault.TheVariants.{Tape}
 use Rattle.script8.specs.declared.replies.Reply.TheVariants.{Line}
 use Rattle.script8.specs.declared.replies.LineReply.TheVariants.{Stored, Deleted, Assembled, Loaded}
 use Rattle.system_session.specs.Console.{ConsoleReplies}

@@ -11,7 +11,7 @@ use Rattle.script8.specs.declared.entries.Entry.{Entry}
 use Rattle.script8.specs.declared.entries.Entry.TheVariants as entry
 use Rattle.script8.specs.declared.entries.FileEntry.TheVariants as files
 use Rattle.script8.specs.declared.entries.JobEntry.TheVariants as job
-use Rattle.script8.specs.declared.faults.SessionFault.TheVariants.{File}
+use Rattle.refusals.specs.declared.faults.SessionFault.TheVariants.{File}
 use Rattle.system_session.specs.Session.{SessionView}
 use Rattle.system_session.specs.System.{Answer}
 

@@ -5,8 +5,8 @@ use Rattle.script8.specs.Items.{script_of, whole_of, LeadsWith, GivesItems, HasN
 use Rattle.script8.specs.Replies.{IsShort}
 use Rattle.script8.specs.declared.entries.Entry.TheVariants.{Jobs}
 use Rattle.script8.specs.declared.entries.JobEntry.TheVariants.{Turn}
-use Rattle.script8.specs.declared.faults.SessionFault.{SessionFault}
-use Rattle.script8.specs.declared.faults.SessionFault.TheVariants as fault
+use Rattle.refusals.specs.declared.faults.SessionFault.{SessionFault}
+use Rattle.refusals.specs.declared.faults.SessionFault.TheVariants as fault
 use Rattle.script8.specs.declared.items.Item.{Item}
 use Rattle.system_session.specs.Script.{AreDue, IsPrefixOf, is_working}
 use Rattle.system_session.specs.ShownAnswers.{ShownAnswer, ShowsFault, ShowsItems, ShowsOne, ShowsPrefix, ShowsTurn, ShowsTurns, all_shown, lines_of}

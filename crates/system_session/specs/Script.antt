@@ -2,11 +2,12 @@
 use Rattle.std.specs.Prelude.{◌≡◌, ◌≢◌, ◌⊎◌, ℕ, Bool, true, false, if◌then◌else◌, Result, Ok, Err, Option, Some, None, List, [], ◌∷◌, ◌++◌}
 use Rattle.std.specs.Io.KnownBytes.{Appends, IsAtEnd}
 use Rattle.script8.specs.Items.{script_of, whole_of}
-use Rattle.script8.specs.Replies.{answer_lines, reply_lines, fault_line}
+use Rattle.script8.specs.Replies.{answer_lines, reply_lines}
+use Rattle.refusals.specs.Faults.{fault_line}
 use Rattle.script8.specs.declared.entries.Entry.TheVariants.{Jobs}
 use Rattle.script8.specs.declared.entries.JobEntry.TheVariants.{Turn}
-use Rattle.script8.specs.declared.faults.SessionFault.{SessionFault}
-use Rattle.script8.specs.declared.faults.SessionFault.TheVariants as fault
+use Rattle.refusals.specs.declared.faults.SessionFault.{SessionFault}
+use Rattle.refusals.specs.declared.faults.SessionFault.TheVariants as fault
 use Rattle.script8.specs.declared.items.Item.{Item}
 use Rattle.script8.specs.declared.items.Item.TheVariants.{Do, Finish, Refused}
 use Rattle.script8.specs.declared.replies.Reply.TheVariants.{Line}

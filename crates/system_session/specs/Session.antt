@@ -9,7 +9,7 @@ use Rattle.volume_jobs.specs.Calls.{Outlives, FailsRead, WriteFailed}
 use Rattle.volume_jobs.specs.Jobs.{Job}
 use Rattle.script8.specs.declared.entries.Entry.{Entry}
 use Rattle.script8.specs.declared.entries.Entry.TheVariants as entry
-use Rattle.script8.specs.declared.faults.SessionFault.TheVariants.{File, Reader, Writer}
+use Rattle.refusals.specs.declared.faults.SessionFault.TheVariants.{File, Reader, Writer}
 use Rattle.system_session.specs.Refusals.{after_refusal}
 use Rattle.system_session.specs.State.{State, Console}
 use Rattle.system_session.specs.System.{Answer}

@@ -5,8 +5,8 @@ use Rattle.system_session.specs.Interleaving.{EntryReads, EntryPlaces}
 use Rattle.std.specs.Prelude.{◌≡◌, ◌<◌, true, false, OnOk, Ok, Err, Bool, Result, ℕ}
 use Rattle.volume_jobs.specs.Calls.{Outlives}
 use Rattle.volume_jobs.specs.declared.faults.JobFault.{JobFault}
-use Rattle.script8.specs.declared.faults.SessionFault.{SessionFault}
-use Rattle.script8.specs.declared.faults.SessionFault.TheVariants.{Memory}
+use Rattle.refusals.specs.declared.faults.SessionFault.{SessionFault}
+use Rattle.refusals.specs.declared.faults.SessionFault.TheVariants.{Memory}
 use Rattle.script8.specs.declared.replies.LineReply.TheVariants as line
 use Rattle.script8.specs.declared.replies.Reply.{Reply}
 use Rattle.script8.specs.declared.replies.Reply.TheVariants.{Line}

@@ -5,8 +5,8 @@ use Rattle.volume_jobs.specs.declared.faults.JobFault.{JobFault}
 use Rattle.volume_jobs.specs.declared.faults.JobFault.TheVariants as job
 use Rattle.volume_jobs.specs.declared.turned.Turned.{Turned}
 use Rattle.volume_jobs.specs.declared.turned.Turned.TheVariants as turned
-use Rattle.script8.specs.declared.faults.SessionFault.{SessionFault}
-use Rattle.script8.specs.declared.faults.SessionFault.TheVariants as fault
+use Rattle.refusals.specs.declared.faults.SessionFault.{SessionFault}
+use Rattle.refusals.specs.declared.faults.SessionFault.TheVariants as fault
 use Rattle.script8.specs.declared.replies.LineReply.{LineReply}
 use Rattle.script8.specs.declared.replies.LineReply.TheVariants as line
 use Rattle.script8.specs.declared.replies.Reply.{Reply}

@@ -1,6 +1,6 @@
 ghost use Rattle.std.specs.Prelude.{◌≡◌};
 
-use script8::SessionFault;
+use refusals::SessionFault;
 use std::alloc::AllocError;
 use std::io;
 
@@ -34,7 +34,7 @@ impl From<Ending> for SessionFault {
 
 /// The calls of a run answer the reader's fault and want of memory.
 impl From<SessionFault> for Ending {
-    ghost use Rattle.script8.specs.declared.faults.SessionFault.TheVariants as fault;
+    ghost use Rattle.refusals.specs.declared.faults.SessionFault.TheVariants as fault;
     ghost use Rattle.system_session.specs.declared.endings.Ending.TheVariants.{Reader, Memory};
 
     ghost from_gives = { λ why ending. (why ≡ fault.Reader → ending ≡ Reader)

@@ -6,7 +6,7 @@ ghost use Rattle.script8.specs.Replies.{job_of_entry};
 ghost use Rattle.script8.specs.declared.entries.Entry.{Entry};
 ghost use Rattle.script8.specs.declared.entries.Entry.TheVariants as entry;
 ghost use Rattle.script8.specs.declared.entries.JobEntry.TheVariants as job;
-ghost use Rattle.script8.specs.declared.faults.SessionFault.{SessionFault};
+ghost use Rattle.refusals.specs.declared.faults.SessionFault.{SessionFault};
 ghost use Rattle.system_session.specs.Road.{changes_file, is_loaded, LoadsCore, ConsoleGoesOn, HasMadeFile, NoneTells};
 ghost use Rattle.system_session.specs.Same.{IsAlike, IsApart, speaks_of_room};
 ghost use Rattle.system_session.specs.Script.{RunsText};

@@ -2,12 +2,13 @@
 
 ghost use Rattle.std.specs.Prelude.{◌≡◌, ◌≤◌, ◌<◌, [], length, drop, IfErr};
 ghost use Rattle.script8.specs.Items.{WaitsForLines};
-ghost use Rattle.script8.specs.declared.faults.SessionFault.TheVariants as fault;
+ghost use Rattle.refusals.specs.declared.faults.SessionFault.TheVariants as fault;
 ghost use Rattle.system_session.specs.ReadSteps.{ReadsPiece};
 
 use byte_reader::ByteReader;
-use script8::readings::{MOST, read_piece};
-use script8::{SessionFault, lines_left, one_line_wanted};
+use refusals::{MOST, SessionFault};
+use script8::readings::read_piece;
+use script8::{lines_left, one_line_wanted};
 use std::alloc::Global;
 
 /// The bytes of a script that were read and are not run.

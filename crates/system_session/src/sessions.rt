@@ -15,13 +15,14 @@ ghost use Rattle.core_load.specs.Core.{zeros};
 ghost use Rattle.cpu8.specs.State.{new_machine};
 ghost use Rattle.debug8.specs.Breaks.{no_breaks};
 ghost use Rattle.script8.specs.declared.entries.Entry.TheVariants as entry;
-ghost use Rattle.script8.specs.declared.faults.SessionFault.TheVariants.{Memory};
+ghost use Rattle.refusals.specs.declared.faults.SessionFault.TheVariants.{Memory};
 
 use crate::consoles::Console;
 use debug8::DebugFault;
 use os8_dir::DirFault;
 use os8_files::FileService;
-use script8::{ConsoleEntry, Entry, Reply, SessionFault, are_steps};
+use refusals::SessionFault;
+use script8::{ConsoleEntry, Entry, Reply, are_steps};
 use std::alloc::Global;
 use std::marker::Model;
 use volume_image::BlockStore;

@@ -6,7 +6,8 @@ ghost use Rattle.script8.specs.Replies.{answer_lines};
 ghost use Rattle.script8.specs.declared.entries.Entry.{Entry};
 ghost use Rattle.system_session.specs.ShownAnswers.{ShownAnswer};
 
-use script8::{Reply, SessionFault};
+use refusals::SessionFault;
+use script8::Reply;
 use std::io;
 use std::io::Write;
 use volume_image::BlockStore;

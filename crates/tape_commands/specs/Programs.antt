@@ -7,7 +7,7 @@ use Rattle.char_pack.specs.Packing.{words_of_bytes}
 use Rattle.char_pack.specs.declared.forms.GetForm.TheVariants.{Frames, Tape}
 use Rattle.core_image.specs.Converted.{IsBinOf}
 use Rattle.core_image.specs.declared.faults.CoreFault.{CoreFault}
-use Rattle.script8.specs.declared.faults.SessionFault.TheVariants.{Memory}
+use Rattle.refusals.specs.declared.faults.SessionFault.TheVariants.{Memory}
 use Rattle.archive_files.specs.Asking.{Target, OfName, target_of}
 use Rattle.archive_files.specs.Getting.{Gets}
 use Rattle.archive_files.specs.declared.asking.Asked.{Asked}

@@ -2,7 +2,7 @@
 use Rattle.std.specs.Prelude.{◌≡◌, ℕ, Option, Result, Ok, Err, List}
 use Rattle.std.specs.Global.{Vec}
 use Rattle.hosts.specs.Event.{Event}
-use Rattle.script8.specs.declared.faults.SessionFault.{SessionFault}
+use Rattle.refusals.specs.declared.faults.SessionFault.{SessionFault}
 use Rattle.tape_reports.specs.Lists.{IsListed, IsListingFault}
 use Rattle.program_tasks.specs.declared.forms.TapeForm.{TapeForm}
 use Rattle.outcome.specs.declared.endings.Ending.{Ending}

@@ -6,7 +6,7 @@ ghost use Rattle.tape_commands.specs.Kinds.{RefusesFrames, RefusesTape};
 use file_kind::{KindFault, kind_of};
 use hosts::Host;
 use outcome::{Ending, kind_note};
-use script8::SessionFault;
+use refusals::SessionFault;
 use std::alloc::Global;
 
 /// How a command ends whose frames are refused, by the ending of their fault. Where they are no BIN tape, what they are is printed on standard

@@ -5,8 +5,8 @@ use Rattle.bin_tape.specs.Items.{Item}
 use Rattle.bin_tape.specs.Tape.{IsTape}
 use Rattle.bin_tape.specs.Fault.{IsFault}
 use Rattle.tape_reports.specs.Listing.{lines_below}
-use Rattle.script8.specs.declared.faults.SessionFault.{SessionFault}
-use Rattle.script8.specs.declared.faults.SessionFault.TheVariants.{Tape, Memory}
+use Rattle.refusals.specs.declared.faults.SessionFault.{SessionFault}
+use Rattle.refusals.specs.declared.faults.SessionFault.TheVariants.{Tape, Memory}
 
 -- the frames are a tape, and the text is the line of each cell that it gives a word, by rising cell
 pub record IsListed (frames text : List ℕ) : Type 0 where

@@ -3,7 +3,7 @@ use Rattle.std.specs.Prelude.{ℕ, Option, None, Some, List, [], ◌∷◌}
 use Rattle.tape_source.specs.Sources.{IsFlowFault, IsNamedFault, IsNamedSourceFrom, IsNamedSourceOf, IsSourceFrom, IsSourceOf}
 use Rattle.tape_source.specs.declared.faults.ListFault.{ListFault}
 use Rattle.tape_source.specs.declared.faults.ListFault.TheVariants as list
-use Rattle.script8.specs.declared.faults.SessionFault.TheVariants.{Tape, Memory}
+use Rattle.refusals.specs.declared.faults.SessionFault.TheVariants.{Tape, Memory}
 use Rattle.program_reports.specs.declared.faults.SourceFault.{SourceFault}
 use Rattle.pal8_source.specs.declared.faults.Pal8Fault.{Pal8Fault}
 use Rattle.pal8_source.specs.declared.faults.Pal8Fault.TheVariants as pal8

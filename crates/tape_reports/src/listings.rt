@@ -6,7 +6,7 @@ ghost use Rattle.tape_reports.specs.Listing.{cell_line, line_of, lines_below};
 ghost use Rattle.tape_reports.specs.Lists.{IsListed, IsListingFault};
 
 use bin_tape::TapeMap;
-use script8::SessionFault;
+use refusals::SessionFault;
 use std::alloc::{AllocError, Global};
 use word12::{CORE, Cell, Word};
 

@@ -5,7 +5,7 @@ ghost use Rattle.tape_reports.specs.Written.{IsNamedText, IsPlainText, IsSourceT
 
 use pal8_source::Pal8Fault;
 use program_reports::SourceFault;
-use script8::SessionFault;
+use refusals::SessionFault;
 use std::alloc::Global;
 use tape_source::{ListFault, named_source_from, named_source_of, source_from, source_of};
 use word12::Cell;

@@ -12,7 +12,7 @@ use Rattle.pal_lex.specs.Runs.{name_number, in_order, tokens}
 use Rattle.pal_lex.specs.Language.{is_reserved}
 use Rattle.pal_lex.specs.Grammar.{phrase_of_tokens, has_bad_number}
 use Rattle.pal_lex.specs.Statements.{statements, judge_statement, statement_or_fault, radix_after}
-use Rattle.pal_lex.specs.declared.faults.LexFault.TheVariants.{IC, NU}
+use Rattle.pal_faults.specs.declared.lexical.LexFault.TheVariants.{IC, NU}
 use Rattle.pal_lex.specs.declared.runs.Radix.TheVariants as radix
 use Rattle.pal_lex.specs.declared.pieces.Token.{Token}
 use Rattle.pal_lex.specs.declared.pieces.Kind.TheVariants.{Comma, Star}

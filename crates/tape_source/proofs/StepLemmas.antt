@@ -3,7 +3,7 @@ use Rattle.std.proofs.Common.{◌≡◌, ◌≢◌, ℕ, ◌+◌, ◌*◌, ◌/�
 use Rattle.std.proofs.lemmas.Bool.Decides.{eqb_tells, nat_tests}
 use Rattle.bin_tape.specs.Pairs.{last_word}
 use Rattle.pal_lex.specs.Statements.{radix_after}
-use Rattle.pal_lex.specs.declared.faults.LexFault.{LexFault}
+use Rattle.pal_faults.specs.declared.lexical.LexFault.{LexFault}
 use Rattle.pal_lex.specs.declared.runs.Radix.TheVariants as radix
 use Rattle.pal_lex.specs.declared.phrases.Body.{Body}
 use Rattle.pal_lex.specs.declared.phrases.Body.TheVariants.{Nothing, Origin, Define, Decimal, Octal, Pause, Field, Reference, Word}
@@ -15,8 +15,8 @@ use Rattle.pal_asm.specs.Expressions.{Meanings}
 use Rattle.pal_asm.specs.Places.{Source, is_word, with_tags, values, last_setting, words_since, place_at, field_at}
 use Rattle.pal_asm.specs.Words.{body_word, with_pair, word_values, pairs_by}
 use Rattle.pal_asm.specs.Faults.{first_of, at_line, past, defined_otherwise, tags_fault, statement_fault, first_order, word_fault, words_fault, has_word}
-use Rattle.pal_asm.specs.declared.faults.Code.TheVariants.{DT, PF}
-use Rattle.pal_asm.specs.declared.faults.AsmFault.{AsmFault}
+use Rattle.pal_faults.specs.declared.assembling.Code.TheVariants.{DT, PF}
+use Rattle.pal_faults.specs.declared.assembling.AsmFault.{AsmFault}
 use Rattle.tape_source.specs.Tags.{is_given}
 use Rattle.tape_source.specs.Looks.{Look, IsNaming, name_in}
 use Rattle.tape_source.specs.Named.{IsByTag, IsThere}

@@ -10,7 +10,7 @@ use Rattle.bin_tape.specs.Fault.{IsFault}
 use Rattle.bin_tape.specs.Pairs.{last_word}
 use Rattle.flow8.specs.Flow.{IsAmong, Reaches}
 use Rattle.source_names.specs.Names.{AreNames, read_of}
-use Rattle.source_names.specs.declared.faults.LineRefusal.{LineRefusal}
+use Rattle.pal_faults.specs.declared.names.LineRefusal.{LineRefusal}
 use Rattle.source_names.specs.declared.faults.NamesFault.TheVariants.{At}
 use Rattle.tape_source.specs.Looks.{Look, AreNotes, IsNaming, with_notes, plain, with_names}
 use Rattle.tape_source.specs.Lines.{source_with}

@@ -2,7 +2,7 @@ ghost use Rattle.std.specs.Prelude.{◌≡◌};
 ghost use Rattle.tape_source.specs.declared.faults.ListFault.TheVariants.{Memory};
 
 use bin_tape::TapeFault;
-use source_names::LineRefusal;
+use pal_faults::LineRefusal;
 use std::alloc::AllocError;
 use thiserror::Error;
 use word12::Cell;

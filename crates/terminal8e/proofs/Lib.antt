@@ -1,5 +1,5 @@
-pub mod TerminalLemmas
 pub mod WaitLemmas
+pub mod TerminalLemmas
 pub mod LookLemmas
 pub mod RunLemmas
 pub mod LaterLemmas

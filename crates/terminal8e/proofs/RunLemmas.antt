@@ -5,8 +5,6 @@ use Rattle.cpu8.specs.Go.{character_of}
 use Rattle.cpu8.specs.Laws.{runs_on}
 use Rattle.cpu8.specs.declared.outcomes.Stepped.{Stepped}
 use Rattle.cpu8.specs.declared.outcomes.Stepped.TheVariants.{Stopped, Interrupted, Ran, Halted, Unassigned}
-use Rattle.cpu8e.specs.State.{State8e}
-use Rattle.cpu8e.specs.Runs.{printing_step}
 use Rattle.terminal8.specs.Keys.{Keyboard, fresh, keys_from, keys_of}
 use Rattle.terminal8.specs.KeySteps.{keyboard_after}
 use Rattle.terminal8.specs.Terminal.{visible_characters, has_halted, stop_of}
@@ -25,21 +23,22 @@ use Rattle.terminal8.proofs.ByteLemmas.{consumes_more, consumes_none, passes-non
 use Rattle.terminal8.proofs.KeyLemmas.{keys_more, after_more}
 use Rattle.terminal8.proofs.LookLemmas.{finds-none, finds-more, finds-found}
 use Rattle.terminal8.proofs.TerminalLemmas.{shown-more}
-use Rattle.terminal8e.specs.Terminal.{Terminal, new_terminal, after_step, next, later, last_did, characters_of, starves, GoesOn, Ends}
-use Rattle.terminal8e.specs.Run.{HasMadeSteps, IsRunOf, IsCut, WritesPrinted, RunsProgram}
-use Rattle.terminal8e.specs.RunSteps.{Attends, Prints, RunsInto}
+use Rattle.terminal8e.specs.Acts.{Acts}
+use Rattle.terminal8e.specs.AnyTerminal.{Terminal, new_terminal, after_step, next, later, last_did, characters_of, starves, GoesOn, Ends}
+use Rattle.terminal8e.specs.AnyRun.{HasMadeSteps, IsRunOf, IsCut, WritesPrinted, RunsProgram}
+use Rattle.terminal8e.specs.AnySteps.{Attends, Prints, RunsInto}
 use Rattle.terminal8e.proofs.TerminalLemmas.{later-none, later-next, did-none, did-next, printed-none, printed-next}
 
 -- ## How far a run has come
 
 -- So many steps are made, in which these looks were made, and no end came before.
-pub record IsAt (old : State8e) (looks : List (Option ℕ)) (over : Bool) (steps : ℕ) (new : State8e) (since : ℕ) : Type 0 where
-  pub at : (more : List (Option ℕ)) → MayFollow over more → later steps (new_terminal old (looks ++ more)) ≡ record { machine = new; looks = more; since = since }
-  pub goes_on : (more : List (Option ℕ)) → MayFollow over more → (m : ℕ) → m < steps → GoesOn (new_terminal old (looks ++ more)) m
+pub record IsAt {S : Type 0} (acts : Acts S) (old : S) (looks : List (Option ℕ)) (over : Bool) (steps : ℕ) (new : S) (since : ℕ) : Type 0 where
+  pub at : (more : List (Option ℕ)) → MayFollow over more → later acts steps (new_terminal old (looks ++ more)) ≡ record { machine = new; looks = more; since = since }
+  pub goes_on : (more : List (Option ℕ)) → MayFollow over more → (m : ℕ) → m < steps → GoesOn acts (new_terminal old (looks ++ more)) m
 
 -- the last of them is no end
-abbrev pub RunsOn : State8e → List (Option ℕ) → Bool → ℕ → Type 0
-RunsOn old looks over steps = (more : List (Option ℕ)) → MayFollow over more → runs_on (last_did steps (new_terminal old (looks ++ more))) ≡ true
+abbrev pub RunsOn : {S : Type 0} → Acts S → S → List (Option ℕ) → Bool → ℕ → Type 0
+RunsOn {S} acts old looks over steps = (more : List (Option ℕ)) → MayFollow over more → runs_on (last_did acts steps (new_terminal old (looks ++ more))) ≡ true
 
 -- These looks found the keys of bytes that the reader gave.
 pub record IsTaken (form : Form) (input : Input) (k : Keyboard) (ahead : List ℕ) (over : Bool) (r r' : Option (List ℕ)) (looks : List (Option ℕ)) : Type 0 where
@@ -51,13 +50,13 @@ pub record IsTaken (form : Form) (input : Input) (k : Keyboard) (ahead : List �
   pub at_end : over ≡ true → HaveEnded input ahead r'
 
 -- All that: the run goes on after so many steps.
-pub record IsRunning (form : Form) (input : Input) (old new : State8e) (k : Keyboard) (ahead : List ℕ) (over : Bool) (since : ℕ)
+pub record IsRunning {S : Type 0} (acts : Acts S) (form : Form) (input : Input) (old new : S) (k : Keyboard) (ahead : List ℕ) (over : Bool) (since : ℕ)
     (r r' w w' : Option (List ℕ)) (paper : List ℕ) (steps : ℕ) : Type 0 where
   pub looks : List (Option ℕ)
-  pub is_at : IsAt old looks over steps new since
-  pub runs : RunsOn old looks over steps
+  pub is_at : IsAt acts old looks over steps new since
+  pub runs : RunsOn acts old looks over steps
   pub taken : IsTaken form input k ahead over r r' looks
-  pub prints : Prints old looks over w w' paper steps
+  pub prints : Prints acts old looks over w w' paper steps
 
 abbrev is-some : {T : Type 0} → Option T → Bool
 is-some None = false
@@ -81,15 +80,15 @@ none-split (l ∷ looks) (b ∷ before) after look is =
       | inr h ↦ inr (h.0, ap (λ x. b ∷ x) h.1 ∙ ap (λ x. x ∷ looks) f)
     ]
 
-pub begun : (form : Form) (input : Input) (s : State8e) (r w : Option (List ℕ)) → s.base.running ≡ true
-    → IsRunning form input s s (fresh form) [] false 0 r r w w [] 0
-begun form input s r w running = record {
+pub begun : {S : Type 0} (acts : Acts S) (form : Form) (input : Input) (s : S) (r w : Option (List ℕ)) → acts.is_running s ≡ true
+    → IsRunning acts form input s s (fresh form) [] false 0 r r w w [] 0
+begun {S} acts form input s r w running = record {
   looks = [];
   is_at = record {
-    at = λ more _. later-none (new_terminal s more);
+    at = λ more _. later-none acts (new_terminal s more);
     goes_on = λ more _ m below. absurd (omega (arith, below));
   };
-  runs = λ more _. ap (λ did. runs_on did) (did-none (new_terminal s more)) ∙ ap (λ (b : Bool). runs_on (if b then Ran None else Stopped)) running;
+  runs = λ more _. ap (λ did. runs_on did) (did-none acts (new_terminal s more)) ∙ ap (λ (b : Bool). runs_on (if b then Ran None else Stopped)) running;
   taken = record {
     bytes = [];
     taken = consumes_none r;
@@ -98,14 +97,14 @@ begun form input s r w running = record {
     none_only = λ before after is. absurd (none-empty before after is);
     at_end = λ h. absurd (true≢false (sym h));
   };
-  prints = λ more _. subst (λ cs. Passes w w [] [] (visible_characters cs)) (sym (printed-none (new_terminal s more))) (passes-none w []);
+  prints = λ more _. subst (λ cs. Passes w w [] [] (visible_characters cs)) (sym (printed-none acts (new_terminal s more))) (passes-none w []);
 }
 
 -- ## The operator attends
 
 -- more looks were made
-joined : (old : State8e) (looks found more : List (Option ℕ)) → new_terminal old ((looks ++ found) ++ more) ≡ new_terminal old (looks ++ (found ++ more))
-joined old looks found more = ap (λ l. new_terminal old l) (append_assoc looks found more)
+joined : {S : Type 0} (acts : Acts S) (old : S) (looks found more : List (Option ℕ)) → new_terminal old ((looks ++ found) ++ more) ≡ new_terminal old (looks ++ (found ++ more))
+joined {S} acts old looks found more = ap (λ l. new_terminal old l) (append_assoc looks found more)
 
 may-join : (over over' : Bool) (found more : List (Option ℕ)) → (over ≡ true → found ≡ []) → (over ≡ true → over' ≡ true) → MayFollow over' more
     → MayFollow over (found ++ more)
@@ -174,68 +173,68 @@ taken-more form input k k' a a' over over' r r' r'' looks found keys i s finds n
   at_end = end;
 }
 
-taken-next : (form : Form) (input : Input) (k k' : Keyboard) (a a' : List ℕ) (over over' : Bool) (s s' : State8e) (since since' : ℕ) (r r' r'' : Option (List ℕ)) (looks : List (Option ℕ)) (starved : Bool)
-    → IsTaken form input k a over r r' looks → (at : Attends input k k' a a' over over' s s' since since' r' r'' starved)
+taken-next : {S : Type 0} (acts : Acts S) (form : Form) (input : Input) (k k' : Keyboard) (a a' : List ℕ) (over over' : Bool) (s s' : S) (since since' : ℕ) (r r' r'' : Option (List ℕ)) (looks : List (Option ℕ)) (starved : Bool)
+    → IsTaken form input k a over r r' looks → (at : Attends acts input k k' a a' over over' s s' since since' r' r'' starved)
     → IsTaken form input k' a' over' r r'' (looks ++ at.found)
-taken-next form input k k' a a' over over' s s' since since' r r' r'' looks starved i at =
+taken-next {S} acts form input k k' a a' over over' s s' since since' r r' r'' looks starved i at =
     taken-more form input k k' a a' over over' r r' r'' looks at.found at.keys i at.strikes at.finds at.none_only (at.at_end i.at_end)
 
 -- the step after that
-step-at : (input : Input) (old s s' new : State8e) (k k' : Keyboard) (a a' : List ℕ) (over over' : Bool) (since since' : ℕ) (r r' : Option (List ℕ)) (looks : List (Option ℕ)) (steps : ℕ) (starved : Bool)
-    → IsAt old looks over steps s since → RunsOn old looks over steps → (at : Attends input k k' a a' over over' s s' since since' r r' starved) → starved ≡ false
-    → new ≡ (printing_step s').0 → IsAt old (looks ++ at.found) over' (steps + 1) new (since' + 1)
-step-at input old s s' new k k' a a' over over' since since' r r' looks steps starved i runs at fed new_is = record {
+step-at : {S : Type 0} (acts : Acts S) (input : Input) (old s s' new : S) (k k' : Keyboard) (a a' : List ℕ) (over over' : Bool) (since since' : ℕ) (r r' : Option (List ℕ)) (looks : List (Option ℕ)) (steps : ℕ) (starved : Bool)
+    → IsAt acts old looks over steps s since → RunsOn acts old looks over steps → (at : Attends acts input k k' a a' over over' s s' since since' r r' starved) → starved ≡ false
+    → new ≡ (acts.printing_step s').0 → IsAt acts old (looks ++ at.found) over' (steps + 1) new (since' + 1)
+step-at {S} acts input old s s' new k k' a a' over over' since since' r r' looks steps starved i runs at fed new_is = record {
   at = λ more may.
       let may' = may-join over over' at.found more at.stays at.over may in
-      later-next steps (new_terminal old ((looks ++ at.found) ++ more))
-      ∙ ap (λ t. next (later steps t)) (joined old looks at.found more)
-      ∙ ap (λ t. next t) (i.at (at.found ++ more) may')
-      ∙ ap (λ (x : Terminal). let y : Terminal = record x { machine = (printing_step x.machine).0; since = x.since + 1 } in y) (at.attends more may)
-      ∙ ap (λ (m : State8e). let y : Terminal = record { machine = m; looks = more; since = since' + 1 } in y) (sym new_is);
+      later-next acts steps (new_terminal old ((looks ++ at.found) ++ more))
+      ∙ ap (λ t. next acts (later acts steps t)) (joined acts old looks at.found more)
+      ∙ ap (λ t. next acts t) (i.at (at.found ++ more) may')
+      ∙ ap (λ (x : Terminal S). let y : Terminal S = record x { machine = (acts.printing_step x.machine).0; since = x.since + 1 } in y) (at.attends more may)
+      ∙ ap (λ (m : S). let y : Terminal S = record { machine = m; looks = more; since = since' + 1 } in y) (sym new_is);
   goes_on = λ more may.
       let may' = may-join over over' at.found more at.stays at.over may in
-      subst (λ t. (m : ℕ) → m < steps + 1 → GoesOn t m) (sym (joined old looks at.found more))
+      subst (λ t. (m : ℕ) → m < steps + 1 → GoesOn acts t m) (sym (joined acts old looks at.found more))
       (below_more _ _ (i.goes_on (at.found ++ more) may') (record {
         runs = runs (at.found ++ more) may';
-        fed = ap (λ t. starves t) (i.at (at.found ++ more) may') ∙ at.starves_is more may ∙ fed;
+        fed = ap (λ t. starves acts t) (i.at (at.found ++ more) may') ∙ at.starves_is more may ∙ fed;
       }));
 }
 
 -- what it did
-step-did : (input : Input) (old s s' : State8e) (k k' : Keyboard) (a a' : List ℕ) (over over' : Bool) (since since' : ℕ) (r r' : Option (List ℕ)) (looks : List (Option ℕ)) (steps : ℕ) (starved : Bool)
-    → IsAt old looks over steps s since → (at : Attends input k k' a a' over over' s s' since since' r r' starved)
-    → (more : List (Option ℕ)) → MayFollow over' more → (after_step (later steps (new_terminal old ((looks ++ at.found) ++ more)))).1 ≡ (printing_step s').1
-step-did input old s s' k k' a a' over over' since since' r r' looks steps starved i at more may =
+step-did : {S : Type 0} (acts : Acts S) (input : Input) (old s s' : S) (k k' : Keyboard) (a a' : List ℕ) (over over' : Bool) (since since' : ℕ) (r r' : Option (List ℕ)) (looks : List (Option ℕ)) (steps : ℕ) (starved : Bool)
+    → IsAt acts old looks over steps s since → (at : Attends acts input k k' a a' over over' s s' since since' r r' starved)
+    → (more : List (Option ℕ)) → MayFollow over' more → (after_step acts (later acts steps (new_terminal old ((looks ++ at.found) ++ more)))).1 ≡ (acts.printing_step s').1
+step-did {S} acts input old s s' k k' a a' over over' since since' r r' looks steps starved i at more may =
     let may' = may-join over over' at.found more at.stays at.over may in
-    ap (λ t. (after_step (later steps t)).1) (joined old looks at.found more)
-    ∙ ap (λ t. (after_step t).1) (i.at (at.found ++ more) may')
-    ∙ ap (λ (x : Terminal). (printing_step x.machine).1) (at.attends more may)
+    ap (λ t. (after_step acts (later acts steps t)).1) (joined acts old looks at.found more)
+    ∙ ap (λ t. (after_step acts t).1) (i.at (at.found ++ more) may')
+    ∙ ap (λ (x : Terminal S). (acts.printing_step x.machine).1) (at.attends more may)
 
-step-last : (input : Input) (old s s' : State8e) (k k' : Keyboard) (a a' : List ℕ) (over over' : Bool) (since since' : ℕ) (r r' : Option (List ℕ)) (looks : List (Option ℕ)) (steps : ℕ) (starved : Bool)
-    (did : Stepped) → IsAt old looks over steps s since → (at : Attends input k k' a a' over over' s s' since since' r r' starved) → did ≡ (printing_step s').1
-    → (more : List (Option ℕ)) → MayFollow over' more → last_did (steps + 1) (new_terminal old ((looks ++ at.found) ++ more)) ≡ did
-step-last input old s s' k k' a a' over over' since since' r r' looks steps starved did i at did_is more may =
-    did-next steps (new_terminal old ((looks ++ at.found) ++ more))
-    ∙ step-did input old s s' k k' a a' over over' since since' r r' looks steps starved i at more may
+step-last : {S : Type 0} (acts : Acts S) (input : Input) (old s s' : S) (k k' : Keyboard) (a a' : List ℕ) (over over' : Bool) (since since' : ℕ) (r r' : Option (List ℕ)) (looks : List (Option ℕ)) (steps : ℕ) (starved : Bool)
+    (did : Stepped) → IsAt acts old looks over steps s since → (at : Attends acts input k k' a a' over over' s s' since since' r r' starved) → did ≡ (acts.printing_step s').1
+    → (more : List (Option ℕ)) → MayFollow over' more → last_did acts (steps + 1) (new_terminal old ((looks ++ at.found) ++ more)) ≡ did
+step-last {S} acts input old s s' k k' a a' over over' since since' r r' looks steps starved did i at did_is more may =
+    did-next acts steps (new_terminal old ((looks ++ at.found) ++ more))
+    ∙ step-did acts input old s s' k k' a a' over over' since since' r r' looks steps starved i at more may
     ∙ sym did_is
 
 -- what it printed
-step-prints : (input : Input) (old s s' : State8e) (k k' : Keyboard) (a a' : List ℕ) (over over' : Bool) (since since' : ℕ) (r r' w w' w'' w''' : Option (List ℕ)) (p p' p'' : List ℕ)
+step-prints : {S : Type 0} (acts : Acts S) (input : Input) (old s s' : S) (k k' : Keyboard) (a a' : List ℕ) (over over' : Bool) (since since' : ℕ) (r r' w w' w'' w''' : Option (List ℕ)) (p p' p'' : List ℕ)
     (looks : List (Option ℕ)) (steps : ℕ) (starved : Bool) (did : Stepped)
-    → IsAt old looks over steps s since → Prints old looks over w w' p steps → (at : Attends input k k' a a' over over' s s' since since' r r' starved)
-    → Passes w' w'' p p' [] → did ≡ (printing_step s').1 → Passes w'' w''' p' p'' (visible_characters (character_of did))
-    → Prints old (looks ++ at.found) over' w w''' p'' (steps + 1)
-step-prints input old s s' k k' a a' over over' since since' r r' w w' w'' w''' p p' p'' looks steps starved did i prints at none did_is some more may =
+    → IsAt acts old looks over steps s since → Prints acts old looks over w w' p steps → (at : Attends acts input k k' a a' over over' s s' since since' r r' starved)
+    → Passes w' w'' p p' [] → did ≡ (acts.printing_step s').1 → Passes w'' w''' p' p'' (visible_characters (character_of did))
+    → Prints acts old (looks ++ at.found) over' w w''' p'' (steps + 1)
+step-prints {S} acts input old s s' k k' a a' over over' since since' r r' w w' w'' w''' p p' p'' looks steps starved did i prints at none did_is some more may =
     let t = new_terminal old ((looks ++ at.found) ++ more) in
-    let did_all = did_is ∙ sym (step-did input old s s' k k' a a' over over' since since' r r' looks steps starved i at more may) in
-    let before : Passes w w' [] p (visible_characters (characters_of steps t)) =
-    subst (λ t. Passes w w' [] p (visible_characters (characters_of steps t))) (sym (joined old looks at.found more))
+    let did_all = did_is ∙ sym (step-did acts input old s s' k k' a a' over over' since since' r r' looks steps starved i at more may) in
+    let before : Passes w w' [] p (visible_characters (characters_of acts steps t)) =
+    subst (λ t. Passes w w' [] p (visible_characters (characters_of acts steps t))) (sym (joined acts old looks at.found more))
     (prints (at.found ++ more) (may-join over over' at.found more at.stays at.over may)) in
     subst (λ cs. Passes w w''' [] p'' cs)
-    (ap (λ d. visible_characters (characters_of steps t) ++ visible_characters (character_of d)) did_all
-    ∙ sym (shown-more (characters_of steps t) (character_of (after_step (later steps t)).1))
-    ∙ ap (λ cs. visible_characters cs) (sym (printed-next steps t)))
-    (passes-more w w' w''' [] p p'' (visible_characters (characters_of steps t)) (visible_characters (character_of did)) before
+    (ap (λ d. visible_characters (characters_of acts steps t) ++ visible_characters (character_of d)) did_all
+    ∙ sym (shown-more (characters_of acts steps t) (character_of (after_step acts (later acts steps t)).1))
+    ∙ ap (λ cs. visible_characters cs) (sym (printed-next acts steps t)))
+    (passes-more w w' w''' [] p p'' (visible_characters (characters_of acts steps t)) (visible_characters (character_of did)) before
     (passes-more w' w'' w''' p p' p'' [] (visible_characters (character_of did)) none some))
 
 -- ## Whether it was an end
@@ -253,12 +252,12 @@ goes-by (Ran printed) h = refl
 why-is : (a b : TerminalEnd) → Some a ≡ Some b → a ≡ b
 why-is a b h = ap (λ o. unwrap_or o a) h
 
-ends-by : (t : Terminal) (n steps : ℕ) (did : Stepped) (w : TerminalEnd) → last_did steps t ≡ did → stop_of did ≡ Some w → Ends t n steps w
-ends-by t n steps Halted w last is = subst (λ x. Ends t n steps x) (why-is why.Halt w is) (ap (λ d. has_halted d) last)
-ends-by t n steps Stopped w last is = subst (λ x. Ends t n steps x) (why-is why.Halt w is) (ap (λ d. has_halted d) last)
-ends-by t n steps (Unassigned word) w last is = subst (λ x. Ends t n steps x) (why-is why.Unassigned w is) (word, last)
-ends-by t n steps Interrupted w last is = absurd (none-some w (sym is))
-ends-by t n steps (Ran printed) w last is = absurd (none-some w (sym is))
+ends-by : {S : Type 0} (acts : Acts S) (t : Terminal S) (n steps : ℕ) (did : Stepped) (w : TerminalEnd) → last_did acts steps t ≡ did → stop_of did ≡ Some w → Ends acts t n steps w
+ends-by {S} acts t n steps Halted w last is = subst (λ x. Ends acts t n steps x) (why-is why.Halt w is) (ap (λ d. has_halted d) last)
+ends-by {S} acts t n steps Stopped w last is = subst (λ x. Ends acts t n steps x) (why-is why.Halt w is) (ap (λ d. has_halted d) last)
+ends-by {S} acts t n steps (Unassigned word) w last is = subst (λ x. Ends acts t n steps x) (why-is why.Unassigned w is) (word, last)
+ends-by {S} acts t n steps Interrupted w last is = absurd (none-some w (sym is))
+ends-by {S} acts t n steps (Ran printed) w last is = absurd (none-some w (sym is))
 
 is-keys : TerminalEnd → Bool
 is-keys why.Halt = false
@@ -289,26 +288,26 @@ limit-keys = refl
 -- ## A run that goes on
 
 -- after a step
-pub running-next : (form : Form) (input : Input) (old s s' new : State8e) (k k' : Keyboard) (a a' : List ℕ) (over over' : Bool) (since since' : ℕ)
+pub running-next : {S : Type 0} (acts : Acts S) (form : Form) (input : Input) (old s s' new : S) (k k' : Keyboard) (a a' : List ℕ) (over over' : Bool) (since since' : ℕ)
     (r r' r'' w w' w'' w''' : Option (List ℕ)) (p p' p'' : List ℕ) (steps : ℕ) (did : Stepped)
-    → IsRunning form input old s k a over since r r' w w' p steps → Attends input k k' a a' over over' s s' since since' r' r'' false
-    → Passes w' w'' p p' [] → new ≡ (printing_step s').0 → did ≡ (printing_step s').1 → Passes w'' w''' p' p'' (visible_characters (character_of did)) → stop_of did ≡ None
-    → IsRunning form input old new k' a' over' (since' + 1) r r'' w w''' p'' (steps + 1)
-running-next form input old s s' new k k' a a' over over' since since' r r' r'' w w' w'' w''' p p' p'' steps did i at none new_is did_is some goes = record {
+    → IsRunning acts form input old s k a over since r r' w w' p steps → Attends acts input k k' a a' over over' s s' since since' r' r'' false
+    → Passes w' w'' p p' [] → new ≡ (acts.printing_step s').0 → did ≡ (acts.printing_step s').1 → Passes w'' w''' p' p'' (visible_characters (character_of did)) → stop_of did ≡ None
+    → IsRunning acts form input old new k' a' over' (since' + 1) r r'' w w''' p'' (steps + 1)
+running-next {S} acts form input old s s' new k k' a a' over over' since since' r r' r'' w w' w'' w''' p p' p'' steps did i at none new_is did_is some goes = record {
   looks = i.looks ++ at.found;
-  is_at = step-at input old s s' new k k' a a' over over' since since' r' r'' i.looks steps false i.is_at i.runs at refl new_is;
+  is_at = step-at acts input old s s' new k k' a a' over over' since since' r' r'' i.looks steps false i.is_at i.runs at refl new_is;
   runs = λ more may.
-      ap (λ d. runs_on d) (step-last input old s s' k k' a a' over over' since since' r' r'' i.looks steps false did i.is_at at did_is more may)
+      ap (λ d. runs_on d) (step-last acts input old s s' k k' a a' over over' since since' r' r'' i.looks steps false did i.is_at at did_is more may)
       ∙ goes-by did goes;
-  taken = taken-next form input k k' a a' over over' s s' since since' r r' r'' i.looks false i.taken at;
-  prints = step-prints input old s s' k k' a a' over over' since since' r' r'' w w' w'' w''' p p' p'' i.looks steps false did i.is_at i.prints at none did_is some;
+  taken = taken-next acts form input k k' a a' over over' s s' since since' r r' r'' i.looks false i.taken at;
+  prints = step-prints acts input old s s' k k' a a' over over' since since' r' r'' w w' w'' w''' p p' p'' i.looks steps false did i.is_at i.prints at none did_is some;
 }
 
 -- ## The ends of a run
 
-has-made : (form : Form) (input : Input) (old new : State8e) (k : Keyboard) (a : List ℕ) (over : Bool) (since : ℕ) (r r' : Option (List ℕ)) (looks : List (Option ℕ)) (steps : ℕ)
-    → IsAt old looks over steps new since → IsTaken form input k a over r r' looks → HasMadeSteps form input old new r r' looks over steps
-has-made form input old new k a over since r r' looks steps i t = record {
+has-made : {S : Type 0} (acts : Acts S) (form : Form) (input : Input) (old new : S) (k : Keyboard) (a : List ℕ) (over : Bool) (since : ℕ) (r r' : Option (List ℕ)) (looks : List (Option ℕ)) (steps : ℕ)
+    → IsAt acts old looks over steps new since → IsTaken form input k a over r r' looks → HasMadeSteps acts form input old new r r' looks over steps
+has-made {S} acts form input old new k a over since r r' looks steps i t = record {
   bytes = t.bytes;
   ahead = a;
   taken = t.taken;
@@ -319,171 +318,171 @@ has-made form input old new k a over since r r' looks steps i t = record {
   looks_left = λ more may. ap (λ x. x.looks) (i.at more may);
 }
 
-abbrev has-run : (form : Form) (input : Input) (n : ℕ) (old new : State8e) (k : Keyboard) (a : List ℕ) (over : Bool) (since : ℕ) (r r' : Option (List ℕ)) (looks : List (Option ℕ)) (steps : ℕ) (y : TerminalEnd)
-    → IsAt old looks over steps new since → IsTaken form input k a over r r' looks → steps ≤ n
-    → ((more : List (Option ℕ)) → MayFollow over more → Ends (new_terminal old (looks ++ more)) n steps y) → (y ≡ why.Keys → over ≡ true)
-    → IsRunOf form input n old new r r' (record { steps = steps; why = y })
-has-run form input n old new k a over since r r' looks steps y i t within ends none = record {
+abbrev has-run : {S : Type 0} (acts : Acts S) (form : Form) (input : Input) (n : ℕ) (old new : S) (k : Keyboard) (a : List ℕ) (over : Bool) (since : ℕ) (r r' : Option (List ℕ)) (looks : List (Option ℕ)) (steps : ℕ) (y : TerminalEnd)
+    → IsAt acts old looks over steps new since → IsTaken form input k a over r r' looks → steps ≤ n
+    → ((more : List (Option ℕ)) → MayFollow over more → Ends acts (new_terminal old (looks ++ more)) n steps y) → (y ≡ why.Keys → over ≡ true)
+    → IsRunOf acts form input n old new r r' (record { steps = steps; why = y })
+has-run {S} acts form input n old new k a over since r r' looks steps y i t within ends none = record {
   looks = looks;
   is_over = over;
-  made = has-made form input old new k a over since r r' looks steps i t;
+  made = has-made acts form input old new k a over since r r' looks steps i t;
   run = λ more may. record { within = within; goes_on = i.goes_on more may; ends = ends more may };
   none_left = none;
 }
 
-abbrev is-cut : (form : Form) (input : Input) (n : ℕ) (old new : State8e) (k : Keyboard) (a : List ℕ) (over : Bool) (since : ℕ) (r r' : Option (List ℕ)) (looks : List (Option ℕ)) (steps : ℕ)
-    → IsAt old looks over steps new since → IsTaken form input k a over r r' looks → steps ≤ n → IsCut form input n old new r r'
-is-cut form input n old new k a over since r r' looks steps i t within = record {
+abbrev is-cut : {S : Type 0} (acts : Acts S) (form : Form) (input : Input) (n : ℕ) (old new : S) (k : Keyboard) (a : List ℕ) (over : Bool) (since : ℕ) (r r' : Option (List ℕ)) (looks : List (Option ℕ)) (steps : ℕ)
+    → IsAt acts old looks over steps new since → IsTaken form input k a over r r' looks → steps ≤ n → IsCut acts form input n old new r r'
+is-cut {S} acts form input n old new k a over since r r' looks steps i t within = record {
   looks = looks;
   is_over = over;
   steps = steps;
-  made = has-made form input old new k a over since r r' looks steps i t;
+  made = has-made acts form input old new k a over since r r' looks steps i t;
   within = within;
   goes_on = i.goes_on;
 }
 
 -- the machine stands stopped at first
-pub stopped-run : (form : Form) (input : Input) (n : ℕ) (s : State8e) (r w : Option (List ℕ)) (p : List ℕ) → p ≡ [] → s.base.running ≡ false
-    → RunsInto form input n s s r r w w p (Ok (record { steps = 0; why = why.Halt }))
-stopped-run form input n s r w p none stopped = (
-  has-run form input n s s (fresh form) [] false 0 r r [] 0 why.Halt
-      (record { at = λ more _. later-none (new_terminal s more); goes_on = λ more _ m below. absurd (omega (arith, below)) })
+pub stopped-run : {S : Type 0} (acts : Acts S) (form : Form) (input : Input) (n : ℕ) (s : S) (r w : Option (List ℕ)) (p : List ℕ) → p ≡ [] → acts.is_running s ≡ false
+    → RunsInto acts form input n s s r r w w p (Ok (record { steps = 0; why = why.Halt }))
+stopped-run {S} acts form input n s r w p none stopped = (
+  has-run acts form input n s s (fresh form) [] false 0 r r [] 0 why.Halt
+      (record { at = λ more _. later-none acts (new_terminal s more); goes_on = λ more _ m below. absurd (omega (arith, below)) })
       (record { bytes = []; taken = consumes_none r; keyboard = refl; finds = finds-none input; none_only = λ before after is. absurd (none-empty before after is); at_end = λ h. absurd (true≢false (sym h)) })
       (omega arith)
       (λ more may.
-      ap (λ did. has_halted did) (did-none (new_terminal s more))
+      ap (λ did. has_halted did) (did-none acts (new_terminal s more))
       ∙ ap (λ (b : Bool). has_halted (if b then Ran None else Stopped)) stopped)
       (λ is. absurd (no-keys why.Halt halt-keys is)),
   λ more _.
-      subst (λ (q : List ℕ). Passes w w [] q (visible_characters (characters_of 0 (new_terminal s more)))) (sym none)
-      (subst (λ cs. Passes w w [] [] (visible_characters cs)) (sym (printed-none (new_terminal s more))) (passes-none w [])),
+      subst (λ (q : List ℕ). Passes w w [] q (visible_characters (characters_of acts 0 (new_terminal s more)))) (sym none)
+      (subst (λ cs. Passes w w [] [] (visible_characters cs)) (sym (printed-none acts (new_terminal s more))) (passes-none w [])),
 )
 
 -- all steps are made
-pub limit-run : (form : Form) (input : Input) (n : ℕ) (old new : State8e) (k : Keyboard) (a : List ℕ) (over : Bool) (since : ℕ) (r r' w w' : Option (List ℕ)) (p : List ℕ) (steps : ℕ)
-    → IsRunning form input old new k a over since r r' w w' p steps → steps ≡ n
-    → RunsInto form input n old new r r' w w' p (Ok (record { steps = n; why = why.Limit }))
-limit-run form input n old new k a over since r r' w w' p steps i e =
-    subst (λ (m : ℕ). RunsInto form input n old new r r' w w' p (Ok (record { steps = m; why = why.Limit }))) e (
-      has-run form input n old new k a over since r r' i.looks steps why.Limit i.is_at i.taken (omega (arith, e)) (λ more may. (e, i.runs more may))
+pub limit-run : {S : Type 0} (acts : Acts S) (form : Form) (input : Input) (n : ℕ) (old new : S) (k : Keyboard) (a : List ℕ) (over : Bool) (since : ℕ) (r r' w w' : Option (List ℕ)) (p : List ℕ) (steps : ℕ)
+    → IsRunning acts form input old new k a over since r r' w w' p steps → steps ≡ n
+    → RunsInto acts form input n old new r r' w w' p (Ok (record { steps = n; why = why.Limit }))
+limit-run {S} acts form input n old new k a over since r r' w w' p steps i e =
+    subst (λ (m : ℕ). RunsInto acts form input n old new r r' w w' p (Ok (record { steps = m; why = why.Limit }))) e (
+      has-run acts form input n old new k a over since r r' i.looks steps why.Limit i.is_at i.taken (omega (arith, e)) (λ more may. (e, i.runs more may))
           (λ is. absurd (no-keys why.Limit limit-keys is)),
       i.prints,
     )
 
 -- looks were made that found no key: the machine is where it was
-moved-at : (old s : State8e) (over over' : Bool) (since : ℕ) (looks found : List (Option ℕ)) (steps : ℕ) → IsAt old looks over steps s since → found ≡ []
-    → (over ≡ true → over' ≡ true) → IsAt old (looks ++ found) over' steps s since
-moved-at old s over over' since looks found steps i none goes =
-    subst (λ (l : List (Option ℕ)). IsAt old l over' steps s since) (sym (append-nil looks) ∙ ap (λ l. looks ++ l) (sym none)) (record {
+moved-at : {S : Type 0} (acts : Acts S) (old s : S) (over over' : Bool) (since : ℕ) (looks found : List (Option ℕ)) (steps : ℕ) → IsAt acts old looks over steps s since → found ≡ []
+    → (over ≡ true → over' ≡ true) → IsAt acts old (looks ++ found) over' steps s since
+moved-at {S} acts old s over over' since looks found steps i none goes =
+    subst (λ (l : List (Option ℕ)). IsAt acts old l over' steps s since) (sym (append-nil looks) ∙ ap (λ l. looks ++ l) (sym none)) (record {
       at = λ more may. i.at more (λ h. may (goes h));
       goes_on = λ more may. i.goes_on more (λ h. may (goes h));
     })
 
-moved-prints : (old : State8e) (over over' : Bool) (looks found : List (Option ℕ)) (w w' w'' : Option (List ℕ)) (p p' : List ℕ) (steps : ℕ)
-    → Prints old looks over w w' p steps → found ≡ [] → (over ≡ true → over' ≡ true) → Passes w' w'' p p' [] → Prints old (looks ++ found) over' w w'' p' steps
-moved-prints old over over' looks found w w' w'' p p' steps prints none goes held =
-    subst (λ (l : List (Option ℕ)). Prints old l over' w w'' p' steps) (sym (append-nil looks) ∙ ap (λ l. looks ++ l) (sym none))
+moved-prints : {S : Type 0} (acts : Acts S) (old : S) (over over' : Bool) (looks found : List (Option ℕ)) (w w' w'' : Option (List ℕ)) (p p' : List ℕ) (steps : ℕ)
+    → Prints acts old looks over w w' p steps → found ≡ [] → (over ≡ true → over' ≡ true) → Passes w' w'' p p' [] → Prints acts old (looks ++ found) over' w w'' p' steps
+moved-prints {S} acts old over over' looks found w w' w'' p p' steps prints none goes held =
+    subst (λ (l : List (Option ℕ)). Prints acts old l over' w w'' p' steps) (sym (append-nil looks) ∙ ap (λ l. looks ++ l) (sym none))
     (λ more may.
-    let printed = visible_characters (characters_of steps (new_terminal old (looks ++ more))) in
+    let printed = visible_characters (characters_of acts steps (new_terminal old (looks ++ more))) in
     subst (λ cs. Passes w w'' [] p' cs) (append-nil printed) (passes-more w w' w'' [] p p' printed [] (prints more (λ h. may (goes h))) held))
 
 -- the keys have ended for a machine that waits for one
-pub starved-run : (form : Form) (input : Input) (n : ℕ) (old s s' : State8e) (k k' : Keyboard) (a a' : List ℕ) (over over' : Bool) (since since' : ℕ)
+pub starved-run : {S : Type 0} (acts : Acts S) (form : Form) (input : Input) (n : ℕ) (old s s' : S) (k k' : Keyboard) (a a' : List ℕ) (over over' : Bool) (since since' : ℕ)
     (r r' r'' w w' w'' : Option (List ℕ)) (p p' : List ℕ) (steps : ℕ)
-    → IsRunning form input old s k a over since r r' w w' p steps → steps < n → Attends input k k' a a' over over' s s' since since' r' r'' true
-    → Passes w' w'' p p' [] → RunsInto form input n old s' r r'' w w'' p' (Ok (record { steps = steps; why = why.Keys }))
-starved-run form input n old s s' k k' a a' over over' since since' r r' r'' w w' w'' p p' steps i below at held =
+    → IsRunning acts form input old s k a over since r r' w w' p steps → steps < n → Attends acts input k k' a a' over over' s s' since since' r' r'' true
+    → Passes w' w'' p p' [] → RunsInto acts form input n old s' r r'' w w'' p' (Ok (record { steps = steps; why = why.Keys }))
+starved-run {S} acts form input n old s s' k k' a a' over over' since since' r r' r'' w w' w'' p p' steps i below at held =
     let none = (at.idle refl).1 in
-    subst (λ (x : State8e). RunsInto form input n old x r r'' w w'' p' (Ok (record { steps = steps; why = why.Keys }))) (sym (at.idle refl).0) (
-      has-run form input n old s k' a' over' since r r'' (i.looks ++ at.found) steps why.Keys
-          (moved-at old s over over' since i.looks at.found steps i.is_at none at.over)
-          (taken-next form input k k' a a' over over' s s' since since' r r' r'' i.looks true i.taken at)
+    subst (λ (x : S). RunsInto acts form input n old x r r'' w w'' p' (Ok (record { steps = steps; why = why.Keys }))) (sym (at.idle refl).0) (
+      has-run acts form input n old s k' a' over' since r r'' (i.looks ++ at.found) steps why.Keys
+          (moved-at acts old s over over' since i.looks at.found steps i.is_at none at.over)
+          (taken-next acts form input k k' a a' over over' s s' since since' r r' r'' i.looks true i.taken at)
           (omega (arith, below))
           (λ more may.
           let may' = may-join over over' at.found more at.stays at.over may in (
             below,
-            ap (λ t. runs_on (last_did steps t)) (joined old i.looks at.found more) ∙ i.runs (at.found ++ more) may',
-            ap (λ t. starves (later steps t)) (joined old i.looks at.found more)
-                ∙ ap (λ t. starves t) (i.is_at.at (at.found ++ more) may') ∙ at.starves_is more may,
+            ap (λ t. runs_on (last_did acts steps t)) (joined acts old i.looks at.found more) ∙ i.runs (at.found ++ more) may',
+            ap (λ t. starves acts (later acts steps t)) (joined acts old i.looks at.found more)
+                ∙ ap (λ t. starves acts t) (i.is_at.at (at.found ++ more) may') ∙ at.starves_is more may,
           ))
           (λ _. at.none_left refl),
-      moved-prints old over over' i.looks at.found w w' w'' p p' steps i.prints none at.over held,
+      moved-prints acts old over over' i.looks at.found w w' w'' p p' steps i.prints none at.over held,
     )
 
 -- a step ends the run
-pub ended-run : (form : Form) (input : Input) (n : ℕ) (old s s' new : State8e) (k k' : Keyboard) (a a' : List ℕ) (over over' : Bool) (since since' : ℕ)
+pub ended-run : {S : Type 0} (acts : Acts S) (form : Form) (input : Input) (n : ℕ) (old s s' new : S) (k k' : Keyboard) (a a' : List ℕ) (over over' : Bool) (since since' : ℕ)
     (r r' r'' w w' w'' w''' : Option (List ℕ)) (p p' p'' : List ℕ) (steps : ℕ) (did : Stepped) (y : TerminalEnd)
-    → IsRunning form input old s k a over since r r' w w' p steps → steps < n → Attends input k k' a a' over over' s s' since since' r' r'' false
-    → Passes w' w'' p p' [] → new ≡ (printing_step s').0 → did ≡ (printing_step s').1 → Passes w'' w''' p' p'' (visible_characters (character_of did)) → stop_of did ≡ Some y
-    → RunsInto form input n old new r r'' w w''' p'' (Ok (record { steps = steps + 1; why = y }))
-ended-run form input n old s s' new k k' a a' over over' since since' r r' r'' w w' w'' w''' p p' p'' steps did y i below at none new_is did_is some is = (
-  has-run form input n old new k' a' over' (since' + 1) r r'' (i.looks ++ at.found) (steps + 1) y
-      (step-at input old s s' new k k' a a' over over' since since' r' r'' i.looks steps false i.is_at i.runs at refl new_is)
-      (taken-next form input k k' a a' over over' s s' since since' r r' r'' i.looks false i.taken at)
+    → IsRunning acts form input old s k a over since r r' w w' p steps → steps < n → Attends acts input k k' a a' over over' s s' since since' r' r'' false
+    → Passes w' w'' p p' [] → new ≡ (acts.printing_step s').0 → did ≡ (acts.printing_step s').1 → Passes w'' w''' p' p'' (visible_characters (character_of did)) → stop_of did ≡ Some y
+    → RunsInto acts form input n old new r r'' w w''' p'' (Ok (record { steps = steps + 1; why = y }))
+ended-run {S} acts form input n old s s' new k k' a a' over over' since since' r r' r'' w w' w'' w''' p p' p'' steps did y i below at none new_is did_is some is = (
+  has-run acts form input n old new k' a' over' (since' + 1) r r'' (i.looks ++ at.found) (steps + 1) y
+      (step-at acts input old s s' new k k' a a' over over' since since' r' r'' i.looks steps false i.is_at i.runs at refl new_is)
+      (taken-next acts form input k k' a a' over over' s s' since since' r r' r'' i.looks false i.taken at)
       (omega (arith, below))
       (λ more may.
-      ends-by (new_terminal old ((i.looks ++ at.found) ++ more)) n (steps + 1) did y
-      (step-last input old s s' k k' a a' over over' since since' r' r'' i.looks steps false did i.is_at at did_is more may) is)
+      ends-by acts (new_terminal old ((i.looks ++ at.found) ++ more)) n (steps + 1) did y
+      (step-last acts input old s s' k k' a a' over over' since since' r' r'' i.looks steps false did i.is_at at did_is more may) is)
       (λ keys. absurd (no-keys y (stop-keys did y is) keys)),
-  step-prints input old s s' k k' a a' over over' since since' r' r'' w w' w'' w''' p p' p'' i.looks steps false did i.is_at i.prints at none did_is some,
+  step-prints acts input old s s' k k' a a' over over' since since' r' r'' w w' w'' w''' p p' p'' i.looks steps false did i.is_at i.prints at none did_is some,
 )
 
 -- the writer fails at what a step printed
-pub unwritten-run : (form : Form) (input : Input) (n : ℕ) (old s s' new : State8e) (k k' : Keyboard) (a a' : List ℕ) (over over' : Bool) (since since' : ℕ)
+pub unwritten-run : {S : Type 0} (acts : Acts S) (form : Form) (input : Input) (n : ℕ) (old s s' new : S) (k k' : Keyboard) (a a' : List ℕ) (over over' : Bool) (since since' : ℕ)
     (r r' r'' w w' : Option (List ℕ)) (p : List ℕ) (steps : ℕ)
-    → IsRunning form input old s k a over since r r' w w' p steps → steps < n → Attends input k k' a a' over over' s s' since since' r' r'' false
-    → new ≡ (printing_step s').0 → IsCut form input n old new r r''
-unwritten-run form input n old s s' new k k' a a' over over' since since' r r' r'' w w' p steps i below at new_is =
-    is-cut form input n old new k' a' over' (since' + 1) r r'' (i.looks ++ at.found) (steps + 1)
-    (step-at input old s s' new k k' a a' over over' since since' r' r'' i.looks steps false i.is_at i.runs at refl new_is)
-    (taken-next form input k k' a a' over over' s s' since since' r r' r'' i.looks false i.taken at)
+    → IsRunning acts form input old s k a over since r r' w w' p steps → steps < n → Attends acts input k k' a a' over over' s s' since since' r' r'' false
+    → new ≡ (acts.printing_step s').0 → IsCut acts form input n old new r r''
+unwritten-run {S} acts form input n old s s' new k k' a a' over over' since since' r r' r'' w w' p steps i below at new_is =
+    is-cut acts form input n old new k' a' over' (since' + 1) r r'' (i.looks ++ at.found) (steps + 1)
+    (step-at acts input old s s' new k k' a a' over over' since since' r' r'' i.looks steps false i.is_at i.runs at refl new_is)
+    (taken-next acts form input k k' a a' over over' s s' since since' r r' r'' i.looks false i.taken at)
     (omega (arith, below))
 
 -- the operator met a fault
-abbrev missed-cut : (form : Form) (input : Input) (n : ℕ) (old s : State8e) (k k' : Keyboard) (a a' : List ℕ) (over : Bool) (since : ℕ) (r r' r'' w w' : Option (List ℕ)) (p : List ℕ) (steps : ℕ)
-    → (i : IsRunning form input old s k a over since r r' w w' p steps) → steps ≤ n → Misses k k' a a' over r' r'' → IsCut form input n old s r r''
-missed-cut form input n old s k k' a a' over since r r' r'' w w' p steps i within m =
-    is-cut form input n old s k' a' over since r r'' (i.looks ++ []) steps
-    (moved-at old s over over since i.looks [] steps i.is_at refl (λ h. h))
+abbrev missed-cut : {S : Type 0} (acts : Acts S) (form : Form) (input : Input) (n : ℕ) (old s : S) (k k' : Keyboard) (a a' : List ℕ) (over : Bool) (since : ℕ) (r r' r'' w w' : Option (List ℕ)) (p : List ℕ) (steps : ℕ)
+    → (i : IsRunning acts form input old s k a over since r r' w w' p steps) → steps ≤ n → Misses k k' a a' over r' r'' → IsCut acts form input n old s r r''
+missed-cut {S} acts form input n old s k k' a a' over since r r' r'' w w' p steps i within m =
+    is-cut acts form input n old s k' a' over since r r'' (i.looks ++ []) steps
+    (moved-at acts old s over over since i.looks [] steps i.is_at refl (λ h. h))
     (taken-more form input k k' a a' over over r r' r'' i.looks [] [] i.taken m.1 (finds-none input) tt (λ h. absurd (true≢false (sym h ∙ m.0))))
     within
 
-missed-runs : (form : Form) (input : Input) (n : ℕ) (old s : State8e) (k k' : Keyboard) (a a' : List ℕ) (over : Bool) (since : ℕ) (r r' r'' w w' w'' : Option (List ℕ)) (p p' : List ℕ) (steps : ℕ)
-    (fault : TerminalFault) → IsRunning form input old s k a over since r r' w w' p steps → steps ≤ n → Misses k k' a a' over r' r''
-    → Holds {A = Bool} w' w'' p p' (Err fault) → RunsInto form input n old s r r'' w w'' p' (Err fault)
-missed-runs form input n old s k k' a a' over since r r' r'' w w' w'' p p' steps Reader i within m held = (
-  missed-cut form input n old s k k' a a' over since r r' r'' w w' p steps i within m,
-  moved-prints old over over i.looks [] w w' w'' p p' steps i.prints refl (λ h. h) held,
+missed-runs : {S : Type 0} (acts : Acts S) (form : Form) (input : Input) (n : ℕ) (old s : S) (k k' : Keyboard) (a a' : List ℕ) (over : Bool) (since : ℕ) (r r' r'' w w' w'' : Option (List ℕ)) (p p' : List ℕ) (steps : ℕ)
+    (fault : TerminalFault) → IsRunning acts form input old s k a over since r r' w w' p steps → steps ≤ n → Misses k k' a a' over r' r''
+    → Holds {A = Bool} w' w'' p p' (Err fault) → RunsInto acts form input n old s r r'' w w'' p' (Err fault)
+missed-runs {S} acts form input n old s k k' a a' over since r r' r'' w w' w'' p p' steps Reader i within m held = (
+  missed-cut acts form input n old s k k' a a' over since r r' r'' w w' p steps i within m,
+  moved-prints acts old over over i.looks [] w w' w'' p p' steps i.prints refl (λ h. h) held,
 )
-missed-runs form input n old s k k' a a' over since r r' r'' w w' w'' p p' steps Writer i within m held =
-    missed-cut form input n old s k k' a a' over since r r' r'' w w' p steps i within m
+missed-runs {S} acts form input n old s k k' a a' over since r r' r'' w w' w'' p p' steps Writer i within m held =
+    missed-cut acts form input n old s k k' a a' over since r r' r'' w w' p steps i within m
 
-pub missed-run : (form : Form) (input : Input) (n : ℕ) (old s new : State8e) (k k' : Keyboard) (a a' : List ℕ) (over : Bool) (since : ℕ) (r r' r'' w w' w'' : Option (List ℕ)) (p p' : List ℕ) (steps : ℕ)
-    (fault : TerminalFault) → IsRunning form input old s k a over since r r' w w' p steps → steps ≤ n → Misses k k' a a' over r' r''
-    → Holds {A = Bool} w' w'' p p' (Err fault) → new ≡ s → RunsInto form input n old new r r'' w w'' p' (Err fault)
-missed-run form input n old s new k k' a a' over since r r' r'' w w' w'' p p' steps fault i within m held is =
-    subst (λ (x : State8e). RunsInto form input n old x r r'' w w'' p' (Err fault)) (sym is)
-    (missed-runs form input n old s k k' a a' over since r r' r'' w w' w'' p p' steps fault i within m held)
+pub missed-run : {S : Type 0} (acts : Acts S) (form : Form) (input : Input) (n : ℕ) (old s new : S) (k k' : Keyboard) (a a' : List ℕ) (over : Bool) (since : ℕ) (r r' r'' w w' w'' : Option (List ℕ)) (p p' : List ℕ) (steps : ℕ)
+    (fault : TerminalFault) → IsRunning acts form input old s k a over since r r' w w' p steps → steps ≤ n → Misses k k' a a' over r' r''
+    → Holds {A = Bool} w' w'' p p' (Err fault) → new ≡ s → RunsInto acts form input n old new r r'' w w'' p' (Err fault)
+missed-run {S} acts form input n old s new k k' a a' over since r r' r'' w w' w'' p p' steps fault i within m held is =
+    subst (λ (x : S). RunsInto acts form input n old x r r'' w w'' p' (Err fault)) (sym is)
+    (missed-runs acts form input n old s k k' a a' over since r r' r'' w w' w'' p p' steps fault i within m held)
 
 -- ## Handing on what is on the paper at last
 
-flushed-prints : (old : State8e) (looks : List (Option ℕ)) (over : Bool) (w w' w'' : Option (List ℕ)) (p p' : List ℕ) (steps : ℕ) → Prints old looks over w w' p steps
-    → Passes w' w'' p p' [] → p' ≡ [] → WritesPrinted old looks over w w'' steps
-flushed-prints old looks over w w' w'' p p' steps prints held none more may =
-    let printed = visible_characters (characters_of steps (new_terminal old (looks ++ more))) in
+flushed-prints : {S : Type 0} (acts : Acts S) (old : S) (looks : List (Option ℕ)) (over : Bool) (w w' w'' : Option (List ℕ)) (p p' : List ℕ) (steps : ℕ) → Prints acts old looks over w w' p steps
+    → Passes w' w'' p p' [] → p' ≡ [] → WritesPrinted acts old looks over w w'' steps
+flushed-prints {S} acts old looks over w w' w'' p p' steps prints held none more may =
+    let printed = visible_characters (characters_of acts steps (new_terminal old (looks ++ more))) in
     passed w w'' p' printed (subst (λ cs. Passes w w'' [] p' cs) (append-nil printed) (passes-more w w' w'' [] p p' printed [] (prints more may) held)) none
 
-pub flushed-run : (form : Form) (input : Input) (n : ℕ) (old new : State8e) (r r' w w' w'' : Option (List ℕ)) (p p' : List ℕ) (ran : Result Ended TerminalFault)
-    → RunsInto form input n old new r r' w w' p ran → Passes w' w'' p p' [] → p' ≡ [] → RunsProgram form input n old new r r' w w'' ran
-flushed-run form input n old new r r' w w' w'' p p' (Ok ended) h held none =
-    (h.0, flushed-prints old h.0.looks h.0.is_over w w' w'' p p' ended.steps h.1 held none)
-flushed-run form input n old new r r' w w' w'' p p' (Err Reader) h held none =
-    (h.0, flushed-prints old h.0.looks h.0.is_over w w' w'' p p' h.0.steps h.1 held none)
-flushed-run form input n old new r r' w w' w'' p p' (Err Writer) h held none = h
+pub flushed-run : {S : Type 0} (acts : Acts S) (form : Form) (input : Input) (n : ℕ) (old new : S) (r r' w w' w'' : Option (List ℕ)) (p p' : List ℕ) (ran : Result Ended TerminalFault)
+    → RunsInto acts form input n old new r r' w w' p ran → Passes w' w'' p p' [] → p' ≡ [] → RunsProgram acts form input n old new r r' w w'' ran
+flushed-run {S} acts form input n old new r r' w w' w'' p p' (Ok ended) h held none =
+    (h.0, flushed-prints acts old h.0.looks h.0.is_over w w' w'' p p' ended.steps h.1 held none)
+flushed-run {S} acts form input n old new r r' w w' w'' p p' (Err Reader) h held none =
+    (h.0, flushed-prints acts old h.0.looks h.0.is_over w w' w'' p p' h.0.steps h.1 held none)
+flushed-run {S} acts form input n old new r r' w w' w'' p p' (Err Writer) h held none = h
 
-pub cut-run : (form : Form) (input : Input) (n : ℕ) (old new : State8e) (r r' w w' : Option (List ℕ)) (p : List ℕ) (ran : Result Ended TerminalFault)
-    → RunsInto form input n old new r r' w w' p ran → IsCut form input n old new r r'
-cut-run form input n old new r r' w w' p (Ok ended) h = record {
+pub cut-run : {S : Type 0} (acts : Acts S) (form : Form) (input : Input) (n : ℕ) (old new : S) (r r' w w' : Option (List ℕ)) (p : List ℕ) (ran : Result Ended TerminalFault)
+    → RunsInto acts form input n old new r r' w w' p ran → IsCut acts form input n old new r r'
+cut-run {S} acts form input n old new r r' w w' p (Ok ended) h = record {
   looks = h.0.looks;
   is_over = h.0.is_over;
   steps = ended.steps;
@@ -491,5 +490,5 @@ cut-run form input n old new r r' w w' p (Ok ended) h = record {
   within = (h.0.run [] (λ _. refl)).within;
   goes_on = λ more may. (h.0.run more may).goes_on;
 }
-cut-run form input n old new r r' w w' p (Err Reader) h = h.0
-cut-run form input n old new r r' w w' p (Err Writer) h = h
+cut-run {S} acts form input n old new r r' w w' p (Err Reader) h = h.0
+cut-run {S} acts form input n old new r r' w w' p (Err Writer) h = h

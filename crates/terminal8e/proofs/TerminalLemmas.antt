@@ -2,28 +2,29 @@
 use Rattle.std.proofs.Common.{◌≡◌, ℕ, ◌+◌, if◌then◌else◌, [], ◌++◌, None, add-one, refl}
 use Rattle.cpu8.specs.Go.{character_of}
 use Rattle.cpu8.specs.declared.outcomes.Stepped.TheVariants.{Stopped, Ran}
-use Rattle.terminal8e.specs.Terminal.{Terminal, after_step, next, later, last_did, characters_of}
+use Rattle.terminal8e.specs.Acts.{Acts}
+use Rattle.terminal8e.specs.AnyTerminal.{Terminal, after_step, next, later, last_did, characters_of}
 
-pub later-none : (t : Terminal) → later 0 t ≡ t
+pub later-none : {S : Type 0} (acts : Acts S) (t : Terminal S) → later acts 0 t ≡ t
 unfolding later
-later-none t = refl
+later-none {S} acts t = refl
 
-pub later-next : (k : ℕ) (t : Terminal) → later (k + 1) t ≡ next (later k t)
+pub later-next : {S : Type 0} (acts : Acts S) (k : ℕ) (t : Terminal S) → later acts (k + 1) t ≡ next acts (later acts k t)
 unfolding later
-later-next k t = rw add-one refl
+later-next {S} acts k t = rw add-one refl
 
-pub did-none : (t : Terminal) → last_did 0 t ≡ (if t.machine.base.running then Ran None else Stopped)
+pub did-none : {S : Type 0} (acts : Acts S) (t : Terminal S) → last_did acts 0 t ≡ (if acts.is_running t.machine then Ran None else Stopped)
 unfolding last_did
-did-none t = refl
+did-none {S} acts t = refl
 
-pub did-next : (k : ℕ) (t : Terminal) → last_did (k + 1) t ≡ (after_step (later k t)).1
+pub did-next : {S : Type 0} (acts : Acts S) (k : ℕ) (t : Terminal S) → last_did acts (k + 1) t ≡ (after_step acts (later acts k t)).1
 unfolding last_did
-did-next k t = rw add-one refl
+did-next {S} acts k t = rw add-one refl
 
-pub printed-none : (t : Terminal) → characters_of 0 t ≡ []
+pub printed-none : {S : Type 0} (acts : Acts S) (t : Terminal S) → characters_of acts 0 t ≡ []
 unfolding characters_of
-printed-none t = refl
+printed-none {S} acts t = refl
 
-pub printed-next : (k : ℕ) (t : Terminal) → characters_of (k + 1) t ≡ characters_of k t ++ character_of (after_step (later k t)).1
+pub printed-next : {S : Type 0} (acts : Acts S) (k : ℕ) (t : Terminal S) → characters_of acts (k + 1) t ≡ characters_of acts k t ++ character_of (after_step acts (later acts k t)).1
 unfolding characters_of
-printed-next k t = rw add-one refl
+printed-next {S} acts k t = rw add-one refl

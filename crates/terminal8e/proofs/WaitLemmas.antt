@@ -67,9 +67,9 @@ none-granted false user enabled flag printer clear none = refl
 
 pub none-waiting : (s : State8e) → Waits s → grants_interrupt s ≡ false
 none-waiting s w =
-    ap (λ b. s.base.interrupts_on && (not b && (not s.base.held_off && (s.user_request || (s.console_enabled && (s.base.teletype.keyboard_flag || s.base.teletype.printer_flag)))))) w.waiting
-    ∙ ap (λ b. s.base.interrupts_on && (true && (not b && (s.user_request || (s.console_enabled && (s.base.teletype.keyboard_flag || s.base.teletype.printer_flag)))))) w.held_off
-    ∙ none-granted s.base.interrupts_on s.user_request s.console_enabled s.base.teletype.keyboard_flag s.base.teletype.printer_flag w.clear w.requested
+    ap (λ b. s.base.interrupts_on && (not b && (not s.base.held_off && ((s.user_request || s.device_request) || (s.console_enabled && (s.base.teletype.keyboard_flag || s.base.teletype.printer_flag)))))) w.waiting
+    ∙ ap (λ b. s.base.interrupts_on && (true && (not b && ((s.user_request || s.device_request) || (s.console_enabled && (s.base.teletype.keyboard_flag || s.base.teletype.printer_flag)))))) w.held_off
+    ∙ none-granted s.base.interrupts_on (s.user_request || s.device_request) s.console_enabled s.base.teletype.keyboard_flag s.base.teletype.printer_flag w.clear w.requested
 
 idle-done : (s : State8e) → s.base.teletype.busy ≡ false → grants_interrupt (printer_done s) ≡ grants_interrupt s
 idle-done s idle = rw idle refl
@@ -106,8 +106,8 @@ by-512 w h = omega (arith, h)
 
 none-following : (s : State8e) → Waits s → grants_interrupt (gone-on s) ≡ false
 none-following s w =
-    ap (λ b. s.base.interrupts_on && (true && (not b && (s.user_request || (s.console_enabled && (s.base.teletype.keyboard_flag || s.base.teletype.printer_flag)))))) w.held_off
-    ∙ none-granted s.base.interrupts_on s.user_request s.console_enabled s.base.teletype.keyboard_flag s.base.teletype.printer_flag w.clear w.requested
+    ap (λ b. s.base.interrupts_on && (true && (not b && ((s.user_request || s.device_request) || (s.console_enabled && (s.base.teletype.keyboard_flag || s.base.teletype.printer_flag)))))) w.held_off
+    ∙ none-granted s.base.interrupts_on (s.user_request || s.device_request) s.console_enabled s.base.teletype.keyboard_flag s.base.teletype.printer_flag w.clear w.requested
 
 -- the JMP back, with the 8/I in it as it is computed
 abbrev jumped : State8e → State8e

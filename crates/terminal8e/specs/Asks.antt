@@ -1,7 +1,7 @@
 -- When a program of the 8/E waits for a key, and when it looks for one (Small Computer Handbook; how long it may look is this project's
 -- profile). The printer is quick: it ends its character before the next step.
 use Rattle.std.specs.Prelude.{ℕ, Bool, ◌&&◌, ◌||◌, not, nat_eq, nat_le}
-use Rattle.cpu8e.specs.State.{State8e, printer_done, grants_interrupt}
+use Rattle.cpu8e.specs.State.{State8e, printer_done, is_requested_by_others, grants_interrupt}
 use Rattle.cpu8e.specs.Step.{next_word}
 use Rattle.terminal8.specs.Asks.{jumps_back}
 
@@ -34,7 +34,7 @@ asks_for_key since s = not s.base.teletype.keyboard_flag && (is_waiting s || (na
 
 -- an interrupt other than the keyboard's is requested, or will be by itself
 abbrev pub is_requested_without_key : State8e → Bool
-is_requested_without_key s = s.user_request || (s.console_enabled && s.base.teletype.printer_flag)
+is_requested_without_key s = is_requested_by_others s || (s.console_enabled && s.base.teletype.printer_flag)
 
 -- nothing changes by itself: the printer is idle, no field waits for a jump, and no interrupt for an instruction. The processor is not
 -- in user mode, nor goes there. No interrupt is requested where they are on.

@@ -1,14 +1,12 @@
 -- What the laws of an 8/E at a terminal say.
-use Rattle.std.specs.Prelude.{◌≡◌, ◌⊎◌, ℕ, zero, suc, List, map, Option, Some}
-use Rattle.std.specs.Io.KnownBytes.{Appends}
+use Rattle.std.specs.Prelude.{◌≡◌, ◌⊎◌, ℕ, zero, suc, List, Option}
 use Rattle.cpu8.specs.Reference.{after_fetch}
 use Rattle.cpu8e.specs.State.{State8e, with_base}
 use Rattle.cpu8e.specs.Runs.{printing_step}
-use Rattle.terminal8.specs.Keys.{keys_of}
-use Rattle.terminal8.specs.Terminal.{visible_characters}
 use Rattle.terminal8.specs.declared.keyboards.Form.{Form}
 use Rattle.terminal8.specs.declared.outcomes.Ended.{Ended}
-use Rattle.terminal8e.specs.Terminal.{Terminal, new_terminal, later, characters_of, IsRun}
+use Rattle.terminal8e.specs.AnyLaws as any
+use Rattle.terminal8e.specs.Terminal.{Terminal, terminal_acts}
 
 -- a machine is as before, or has gone on by one instruction that changed nothing but PC
 abbrev pub IsInLoop : State8e → State8e → Type 0
@@ -23,14 +21,12 @@ after (suc k) s = (printing_step (after k s)).0
 
 -- a terminal at which these keys are struck, one at each look
 abbrev pub terminal_with_keys : State8e → List ℕ → Terminal
-terminal_with_keys s keys = new_terminal s (map (λ key. Some key) keys)
+terminal_with_keys s keys = any.terminal_with_keys s keys
 
 -- a terminal at which the keys of these bytes are struck
 abbrev pub terminal_of : Form → State8e → List ℕ → Terminal
-terminal_of form s bytes = terminal_with_keys s (keys_of form bytes)
+terminal_of form s bytes = any.terminal_of form s bytes
 
 -- A run of at most n steps of a terminal, the machine that it leaves, and what a writer got.
-pub record IsWholeRun (t : Terminal) (n : ℕ) (new : State8e) (writer writer' : Option (List ℕ)) (ended : Ended) : Type 0 where
-  pub run : IsRun t n ended.steps ended.why
-  pub machine : (later ended.steps t).machine ≡ new
-  pub printed : Appends writer writer' (visible_characters (characters_of ended.steps t))
+abbrev pub IsWholeRun : Terminal → ℕ → State8e → Option (List ℕ) → Option (List ℕ) → Ended → Type 0
+IsWholeRun t n new writer writer' ended = any.IsWholeRun terminal_acts t n new writer writer' ended

@@ -1,5 +1,10 @@
 pub mod Asks
+pub mod Acts
+pub mod AnyTerminal
+pub mod AnyRun
+pub mod AnySteps
+pub mod AnyLaws
 pub mod Terminal
+pub mod TerminalSteps
 pub mod Run
-pub mod RunSteps
 pub mod Laws

@@ -1,56 +1,14 @@
 -- A run of an 8/E whose keys a reader gives, and whose printed characters a writer gets (this project's profile).
-use Rattle.std.specs.Prelude.{◌≡◌, ℕ, ◌<◌, ◌≤◌, Bool, true, List, ◌∷◌, ◌++◌, Option, None, Result, Ok, Err}
-use Rattle.std.specs.Io.KnownBytes.{Consumes, Appends}
+use Rattle.std.specs.Prelude.{ℕ, List, Option, Result}
 use Rattle.cpu8e.specs.State.{State8e}
-use Rattle.terminal8.specs.Keys.{keys_of}
-use Rattle.terminal8.specs.Terminal.{visible_characters}
-use Rattle.terminal8.specs.Run.{MayFollow, FindsKey, FindsNone, HaveEnded}
 use Rattle.terminal8.specs.declared.inputs.Input.{Input}
 use Rattle.terminal8.specs.declared.keyboards.Form.{Form}
 use Rattle.terminal8.specs.declared.outcomes.Ended.{Ended}
 use Rattle.terminal8.specs.declared.outcomes.TerminalFault.{TerminalFault}
-use Rattle.terminal8.specs.declared.outcomes.TerminalFault.TheVariants.{Reader, Writer}
-use Rattle.terminal8.specs.declared.outcomes.TerminalEnd.TheVariants as why
-use Rattle.terminal8e.specs.Terminal.{new_terminal, later, characters_of, GoesOn, IsRun}
-
--- A machine made so many steps, in which these looks were made, whatever later ones would have found. They found the keys of
--- bytes that the reader gave. Bytes after those that were read ahead are no part of the run.
-pub record HasMadeSteps (form : Form) (input : Input) (old new : State8e) (reader reader' : Option (List ℕ)) (looks : List (Option ℕ)) (is_over : Bool) (steps : ℕ) : Type 0 where
-  pub bytes : List ℕ
-  pub ahead : List ℕ
-  pub taken : Consumes reader reader' (bytes ++ ahead)
-  pub finds : FindsKey input looks (keys_of form bytes)
-  pub none_only : (before after : List (Option ℕ)) → before ++ None ∷ after ≡ looks → FindsNone form reader before
-  pub at_end : is_over ≡ true → HaveEnded input ahead reader'
-  pub machine : (more : List (Option ℕ)) → MayFollow is_over more → (later steps (new_terminal old (looks ++ more))).machine ≡ new
-  pub looks_left : (more : List (Option ℕ)) → MayFollow is_over more → (later steps (new_terminal old (looks ++ more))).looks ≡ more
-
--- a run of at most n steps: it ends at the first end that comes
-pub record IsRunOf (form : Form) (input : Input) (n : ℕ) (old new : State8e) (reader reader' : Option (List ℕ)) (ended : Ended) : Type 0 where
-  pub looks : List (Option ℕ)
-  pub is_over : Bool
-  pub made : HasMadeSteps form input old new reader reader' looks is_over ended.steps
-  pub run : (more : List (Option ℕ)) → MayFollow is_over more → IsRun (new_terminal old (looks ++ more)) n ended.steps ended.why
-  pub none_left : ended.why ≡ why.Keys → is_over ≡ true
-
--- A run that a fault cuts short after so many steps.
-pub record IsCut (form : Form) (input : Input) (n : ℕ) (old new : State8e) (reader reader' : Option (List ℕ)) : Type 0 where
-  pub looks : List (Option ℕ)
-  pub is_over : Bool
-  pub steps : ℕ
-  pub made : HasMadeSteps form input old new reader reader' looks is_over steps
-  pub within : steps ≤ n
-  pub goes_on : (more : List (Option ℕ)) → MayFollow is_over more → (k : ℕ) → k < steps → GoesOn (new_terminal old (looks ++ more)) k
-
--- the writer got what so many steps print
-abbrev pub WritesPrinted : State8e → List (Option ℕ) → Bool → Option (List ℕ) → Option (List ℕ) → ℕ → Type 0
-WritesPrinted s looks is_over writer writer' steps =
-    (more : List (Option ℕ)) → MayFollow is_over more → Appends writer writer' (visible_characters (characters_of steps (new_terminal s (looks ++ more))))
+use Rattle.terminal8e.specs.AnyRun as any
+use Rattle.terminal8e.specs.Terminal.{terminal_acts}
 
 -- What a run of at most n steps answers. Where the reader fails the writer got what was printed so far.
 abbrev pub RunsProgram : Form → Input → ℕ → State8e → State8e → Option (List ℕ) → Option (List ℕ) → Option (List ℕ) → Option (List ℕ) → Result Ended TerminalFault → Type 0
-RunsProgram form input n old new reader reader' writer writer' (Ok ended) =
-    (ran : IsRunOf form input n old new reader reader' ended) × WritesPrinted old ran.looks ran.is_over writer writer' ended.steps
-RunsProgram form input n old new reader reader' writer writer' (Err Reader) =
-    (cut : IsCut form input n old new reader reader') × WritesPrinted old cut.looks cut.is_over writer writer' cut.steps
-RunsProgram form input n old new reader reader' writer writer' (Err Writer) = IsCut form input n old new reader reader'
+RunsProgram form input n old new reader reader' writer writer' result =
+    any.RunsProgram terminal_acts form input n old new reader reader' writer writer' result

@@ -1,80 +1,49 @@
 -- An 8/E at a terminal (this project's profile). An operator strikes a key only where the program waits or looks for one, and a quick
--- printer ends its character before each step.
-use Rattle.std.specs.Prelude.{◌≡◌, ℕ, zero, suc, ◌+◌, ◌<◌, ◌≤◌, Bool, true, false, ◌&&◌, if◌then◌else◌, List, [], ◌∷◌, ◌++◌, Option, Some, None}
-use Rattle.cpu8.specs.Go.{character_of}
-use Rattle.cpu8.specs.Laws.{runs_on}
+-- printer ends its character before each step. `AnyTerminal` says it of every machine.
+use Rattle.std.specs.Prelude.{ℕ, Bool, List}
 use Rattle.cpu8.specs.declared.outcomes.Stepped.{Stepped}
-use Rattle.cpu8.specs.declared.outcomes.Stepped.TheVariants.{Stopped, Ran, Unassigned}
 use Rattle.cpu8e.specs.State.{State8e, key_struck}
 use Rattle.cpu8e.specs.Runs.{printing_step}
-use Rattle.terminal8.specs.Terminal.{is_none_left, has_halted}
 use Rattle.terminal8.specs.declared.outcomes.TerminalEnd.{TerminalEnd}
-use Rattle.terminal8.specs.declared.outcomes.TerminalEnd.TheVariants as why
+use Rattle.terminal8e.specs.Acts.{Acts}
+use Rattle.terminal8e.specs.AnyTerminal as any
 use Rattle.terminal8e.specs.Asks.{asks_for_key, waits_for_key}
 
--- A machine, what the operator's next looks at the keys find, each a key or none yet, and the steps since the last
--- look. After the last one the keys have ended.
-pub record Terminal : Type 0 where
-  pub machine : State8e
-  pub looks : List (Option ℕ)
-  pub since : ℕ
+-- what a terminal asks of an 8/E
+abbrev pub terminal_acts : Acts State8e
+terminal_acts = record {
+  is_running = λ s. s.base.running;
+  asks_for_key = asks_for_key;
+  waits_for_key = waits_for_key;
+  key_struck = key_struck;
+  printing_step = printing_step;
+}
 
--- an operator sits down at a machine, whose looks will find this
-abbrev pub new_terminal : State8e → List (Option ℕ) → Terminal
-new_terminal s looks = record { machine = s; looks = looks; since = 0 }
+-- a machine, what the operator's next looks find, and the steps since the last look
+abbrev pub Terminal : Type 0
+Terminal = any.Terminal State8e
 
--- the operator looks for the next key, and strikes it if there is one
-abbrev pub after_look : State8e → List (Option ℕ) → Terminal
-after_look s [] = new_terminal s []
-after_look s (None ∷ looks) = new_terminal s looks
-after_look s (Some key ∷ looks) = new_terminal (key_struck s key) looks
-
--- and does so where the program asks for one
-abbrev pub after_attention : Terminal → Terminal
-after_attention t = if asks_for_key t.since t.machine then after_look t.machine t.looks else t
-
--- then the machine makes a step
 abbrev pub after_step : Terminal → State8e × Stepped
-after_step t = printing_step (after_attention t).machine
+after_step t = any.after_step terminal_acts t
 
--- what stands after that step
 abbrev pub next : Terminal → Terminal
-next t = record (after_attention t) { machine = (after_step t).0; since = (after_attention t).since + 1 }
+next t = any.next terminal_acts t
 
--- the terminal after so many steps
-unfoldable pub later : ℕ → Terminal → Terminal
-later zero t = t
-later (suc k) t = next (later k t)
+-- the terminal after so many steps, and what they print
+abbrev pub later : ℕ → Terminal → Terminal
+later k t = any.later terminal_acts k t
 
--- what the last of so many steps did; before the first, what a machine that runs or stands stopped counts as having done
-unfoldable pub last_did : ℕ → Terminal → Stepped
-last_did zero t = if t.machine.base.running then Ran None else Stopped
-last_did (suc k) t = (after_step (later k t)).1
+abbrev pub characters_of : ℕ → Terminal → List ℕ
+characters_of k t = any.characters_of terminal_acts k t
 
--- the characters that so many steps print
-unfoldable pub characters_of : ℕ → Terminal → List ℕ
-characters_of zero t = []
-characters_of (suc k) t = characters_of k t ++ character_of (after_step (later k t)).1
-
--- the keys have ended, and the machine waits for one
+-- the keys have ended, and the program asks for one and does nothing but wait for it
 abbrev pub starves : Terminal → Bool
-starves t = is_none_left t.looks && waits_for_key t.machine
+starves t = any.starves terminal_acts t
 
 -- after so many steps the run goes on
-pub record GoesOn (t : Terminal) (k : ℕ) : Type 0 where
-  pub runs : runs_on (last_did k t) ≡ true
-  pub fed : starves (later k t) ≡ false
+abbrev pub GoesOn : Terminal → ℕ → Type 0
+GoesOn t k = any.GoesOn terminal_acts t k
 
--- Why a run of at most n steps ends after so many of them. The last one was a HLT, or the machine stands stopped. Or it met an
--- unassigned word; or the keys have ended and the machine waits for one; or all n are made.
-abbrev pub Ends : Terminal → ℕ → ℕ → TerminalEnd → Type 0
-Ends t n steps why.Halt = has_halted (last_did steps t) ≡ true
-Ends t n steps why.Unassigned = (word : ℕ) × (last_did steps t ≡ Unassigned word)
-Ends t n steps why.Keys = (steps < n) × (runs_on (last_did steps t) ≡ true) × (starves (later steps t) ≡ true)
-Ends t n steps why.Limit = (steps ≡ n) × (runs_on (last_did steps t) ≡ true)
-
--- A run of at most n steps ends at the first end that comes.
-pub record IsRun (t : Terminal) (n steps : ℕ) (why : TerminalEnd) : Type 0 where
-  pub within : steps ≤ n
-  pub goes_on : (k : ℕ) → k < steps → GoesOn t k
-  pub ends : Ends t n steps why
+-- a run of at most n steps ends at the first end that comes
+abbrev pub IsRun : Terminal → ℕ → ℕ → TerminalEnd → Type 0
+IsRun t n steps why = any.IsRun terminal_acts t n steps why

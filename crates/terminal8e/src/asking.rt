@@ -1,6 +1,7 @@
 //! When a program asks for a key, and when it does nothing but wait for one.
 
 ghost use Rattle.std.specs.Prelude.{◌≡◌, ◌<◌};
+ghost use Rattle.cpu8e.specs.State.{is_requested_by_others};
 ghost use Rattle.cpu8e.specs.Step.{next_word};
 ghost use Rattle.terminal8.specs.Asks.{jumps_back};
 ghost use Rattle.terminal8e.specs.Asks.{asks_for_key, is_at_ksf, is_at_rest, is_requested_without_key, is_undisturbed, is_waiting, may_see_key, tests_keyboard, waits_for_key};
@@ -75,7 +76,7 @@ fn is_undisturbed(machine: &Machine) -> bool
     ensures { result ≡ is_undisturbed machine.now }
 {
     let console = machine.keyboard_flag() || machine.printer_flag() || machine.is_busy();
-    let requests = machine.user_request() || machine.console_enabled() && console;
+    let requests = is_requested_by_others(machine) || machine.console_enabled() && console;
     let grants = machine.interrupts_on()
         && !machine.is_waiting()
         && !machine.is_held_off()
@@ -117,7 +118,14 @@ fn is_at_rest(machine: &Machine) -> bool
 fn is_requested_without_key(machine: &Machine) -> bool
     ensures { result ≡ is_requested_without_key machine.now }
 {
-    machine.user_request() || (machine.console_enabled() && machine.printer_flag())
+    is_requested_by_others(machine) || (machine.console_enabled() && machine.printer_flag())
+}
+
+/// Whether an interrupt is requested that is not the console's.
+fn is_requested_by_others(machine: &Machine) -> bool
+    ensures { result ≡ is_requested_by_others machine.now }
+{
+    machine.user_request() || machine.device_request()
 }
 
 /// So many steps take a tenth of a second.

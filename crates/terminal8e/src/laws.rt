@@ -12,6 +12,9 @@ ghost use Rattle.terminal8e.specs.Run.{RunsProgram};
 ghost use Rattle.terminal8e.specs.Terminal as terminal;
 ghost use Rattle.terminal8e.specs.Terminal.{Terminal, IsRun, later};
 
+use crate::machine_laws as any;
+use cpu8e::Machine;
+
 /// A machine that waits for a key does so for ever where none comes. After any number of steps it stands at its KSF or at the JMP after
 /// it, and is else as before. At its KSF it asks for a key.
 pub fn waiting()
@@ -24,7 +27,9 @@ pub fn later_steps()
     ensures terminal { (a b : ℕ) (t : Terminal) → later (a + b) t ≡ later b (later a t) }
     ensures printed { (a b : ℕ) (t : Terminal) → terminal.characters_of (a + b) t
         ≡ terminal.characters_of a t ++ terminal.characters_of b (later a t) }
-{}
+{
+    any::later_steps::<Machine>();
+}
 
 /// A run has one end: a terminal and a greatest number of steps determine how many are made, and why no more.
 pub fn one_end()
@@ -32,7 +37,9 @@ pub fn one_end()
         → a ≡ b }
     ensures why { (t : Terminal) (n a b : ℕ) (why other : TerminalEnd) → IsRun t n a why → IsRun t n b other
         → why ≡ other }
-{}
+{
+    any::one_end::<Machine>();
+}
 
 /// Where keys end, and the bytes of the reader are known, a run is that of a terminal at which all their keys are struck. It does
 /// not matter how far the reader was read.
@@ -41,4 +48,6 @@ pub fn known_bytes()
         (writer written : Option (List ℕ)) (ended : Ended)
         → RunsProgram form Ending n old new (Some bytes) (Some left) writer written (Ok ended)
         → IsWholeRun (terminal_of form old bytes) n new writer written ended }
-{}
+{
+    any::known_bytes::<Machine>();
+}

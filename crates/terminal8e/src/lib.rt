@@ -6,10 +6,15 @@
 
 mod asking;
 pub mod laws;
+pub mod machine_laws;
+mod machines;
 mod operators;
+mod processors;
 mod runs;
 mod terminals;
 
 pub use asking::{asks_for_key, waits_for_key};
-pub use runs::run;
+pub use machines::TerminalMachine;
+pub use processors::run;
+pub use runs::run_machine;
 pub use terminals::Terminal;

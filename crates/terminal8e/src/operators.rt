@@ -4,12 +4,11 @@ ghost use Rattle.std.specs.Prelude.{◌≡◌, false, [], IfOk, OnOk, IfErr};
 ghost use Rattle.terminal8.specs.Keys.{fresh};
 ghost use Rattle.terminal8.specs.Papers.{Holds};
 ghost use Rattle.terminal8.specs.RunSteps.{Misses, is_ending};
-ghost use Rattle.terminal8e.specs.RunSteps.{Attends, Looks};
+ghost use Rattle.terminal8e.specs.AnySteps.{Attends, Looks};
 ghost use Rattle.terminal8.specs.declared.outcomes.TerminalFault.TheVariants as fault;
 
-use crate::asking::{asks_for_key, waits_for_key};
+use crate::machines::TerminalMachine;
 use byte_reader::ByteReader;
-use cpu8e::Machine;
 use terminal8::{Form, Input, Keyboard, Output, Paper, ReadAhead, TerminalFault, next_key};
 
 /// Who strikes the keys of a reader.
@@ -44,14 +43,14 @@ impl Operator {
     /// Looks for a key where the program asks for one. The answer is whether the keys have ended and the machine waits
     /// for one.
     #[inline(always)]
-    pub(crate) fn attend<R: ByteReader, O: Output>(
+    pub(crate) fn attend<M: TerminalMachine, R: ByteReader, O: Output>(
         &mut self,
-        machine: &mut Machine,
+        machine: &mut M,
         paper: &mut Paper,
         reader: &mut R,
         writer: &mut O,
     ) -> Result<bool, TerminalFault>
-        ensures ok { IfOk result (Attends self.old.input self.old.keyboard self.new.keyboard
+        ensures ok { IfOk result (Attends M.acts self.old.input self.old.keyboard self.new.keyboard
             self.old.ahead self.new.ahead self.old.is_over self.new.is_over machine.old machine.new
             self.old.since self.new.since (R.remaining reader.old) (R.remaining reader.new)) }
         ensures paper { Holds (O.contents writer.old) (O.contents writer.new) paper.old paper.new result }
@@ -63,22 +62,22 @@ impl Operator {
         ensures input { self.new.input ≡ self.old.input }
         ensures same { IfErr result (λ _. machine.new ≡ machine.old) }
     {
-        if !asks_for_key(self.since, machine) {
+        if !machine.asks_for_key(self.since) {
             return Ok(false);
         }
         self.look(machine, paper, reader, writer)?;
-        Ok(self.is_over && waits_for_key(machine))
+        Ok(self.is_over && machine.waits_for_key())
     }
 
     /// Looks for the reader's next key, and strikes it if there is one.
-    fn look<R: ByteReader, O: Output>(
+    fn look<M: TerminalMachine, R: ByteReader, O: Output>(
         &mut self,
-        machine: &mut Machine,
+        machine: &mut M,
         paper: &mut Paper,
         reader: &mut R,
         writer: &mut O,
     ) -> Result<(), TerminalFault>
-        ensures ok { OnOk result (Looks self.old.input self.old.keyboard self.new.keyboard
+        ensures ok { OnOk result (Looks M.acts self.old.input self.old.keyboard self.new.keyboard
             self.old.ahead self.new.ahead self.old.is_over self.new.is_over machine.old machine.new
             (R.remaining reader.old) (R.remaining reader.new)) }
         ensures paper { Holds (O.contents writer.old) (O.contents writer.new) paper.old paper.new result }
@@ -96,7 +95,7 @@ impl Operator {
             return Ok(());
         }
         match next_key(&mut self.keyboard, &mut self.ahead, paper, reader, writer)? {
-            Some(key) => machine.key(key),
+            Some(key) => machine.strike_key(key),
             None => self.is_over = is_ending(self.input),
         }
         Ok(())

@@ -2,20 +2,19 @@
 
 ghost use Rattle.std.specs.Prelude.{◌≡◌, [], IfOk, IfErr};
 ghost use Rattle.cpu8.specs.Go.{character_of};
-ghost use Rattle.cpu8e.specs.Runs.{printing_step};
 ghost use Rattle.terminal8.specs.Terminal.{visible_characters};
 ghost use Rattle.terminal8.specs.Papers.{Passes};
 ghost use Rattle.terminal8.specs.declared.outcomes.TerminalFault.TheVariants as fault;
-ghost use Rattle.terminal8e.specs.Run.{RunsProgram};
-ghost use Rattle.terminal8e.specs.RunSteps.{RunsInto};
+ghost use Rattle.terminal8e.specs.AnyRun.{RunsProgram};
+ghost use Rattle.terminal8e.specs.AnySteps.{RunsInto};
 
+use crate::machines::TerminalMachine;
 use crate::operators::Operator;
 use byte_reader::ByteReader;
 use cpu8::Stepped;
-use cpu8e::Machine;
 use terminal8::{Ended, Form, Input, Output, Paper, TerminalEnd, TerminalFault, stop_of};
 
-/// Runs an 8/E, at most n steps of it, each an instruction or an interrupt, with a printer that ends its character before the next
+/// Runs a machine, at most n steps of it, each an instruction or an interrupt, with a printer that ends its character before the next
 /// step. A key is looked for only where the program asks for one, and is struck there. What is printed goes to the writer without its
 /// top bit, and NUL is left out. Bytes are read some ahead: those that are not struck are no part of the run. Before the reader is
 /// asked for bytes, what was printed so far is handed on, and the writer flushed.
@@ -23,15 +22,15 @@ use terminal8::{Ended, Form, Input, Output, Paper, TerminalEnd, TerminalFault, s
 /// It ends at a HLT, or where the machine stands stopped. It ends where the keys have ended and the machine waits for one for ever, or
 /// after n steps. Live keys never end: a look that finds none is made again where the program next asks for one. The answer is
 /// `Reader` or `Writer` only where one of these has failed. It takes no memory.
-pub fn run<R: ByteReader, O: Output>(
-    machine: &mut Machine,
+pub fn run_machine<M: TerminalMachine, R: ByteReader, O: Output>(
+    machine: &mut M,
     n: u64,
     form: Form,
     input: Input,
     reader: &mut R,
     writer: &mut O,
 ) -> Result<Ended, TerminalFault>
-    ensures runs { RunsProgram form input n machine.old machine.new
+    ensures runs { RunsProgram M.acts form input n machine.old machine.new
         (R.remaining reader.old) (R.remaining reader.new)
         (O.contents writer.old) (O.contents writer.new) result }
     ensures cause { IfErr result (λ e. e ≡ fault.Writer → O.has_failed writer.new) }
@@ -49,8 +48,8 @@ pub fn run<R: ByteReader, O: Output>(
 }
 
 /// The same, but what was printed last may still be on the paper.
-fn run_steps<R: ByteReader, O: Output>(
-    machine: &mut Machine,
+fn run_steps<M: TerminalMachine, R: ByteReader, O: Output>(
+    machine: &mut M,
     n: u64,
     form: Form,
     input: Input,
@@ -59,7 +58,7 @@ fn run_steps<R: ByteReader, O: Output>(
     writer: &mut O,
 ) -> Result<Ended, TerminalFault>
     requires { paper.old ≡ [] }
-    ensures runs { RunsInto form input n machine.old machine.new (R.remaining reader.old) (R.remaining reader.new)
+    ensures runs { RunsInto M.acts form input n machine.old machine.new (R.remaining reader.old) (R.remaining reader.new)
         (O.contents writer.old) (O.contents writer.new) paper.new result }
     ensures cause { IfErr result (λ e. e ≡ fault.Writer → O.has_failed writer.new) }
     ensures failed { IfErr result (λ e. e ≡ fault.Reader → R.has_failed reader.new) }
@@ -94,22 +93,19 @@ fn run_steps<R: ByteReader, O: Output>(
 
 /// A step, before which the printer ends its character; and what it prints is put on paper.
 #[inline(always)]
-fn step<O: Output>(
-    machine: &mut Machine,
+fn step<M: TerminalMachine, O: Output>(
+    machine: &mut M,
     paper: &mut Paper,
     writer: &mut O,
 ) -> Result<Stepped, TerminalFault>
-    ensures state { machine.new ≡ (printing_step machine.old).0 }
-    ensures ok { IfOk result (λ did. (did ≡ (printing_step machine.old).1)
+    ensures state { machine.new ≡ (M.acts.printing_step machine.old).0 }
+    ensures ok { IfOk result (λ did. (did ≡ (M.acts.printing_step machine.old).1)
         × Passes (O.contents writer.old) (O.contents writer.new) paper.old paper.new
         (visible_characters (character_of did))) }
     ensures err { IfErr result (λ e. e ≡ fault.Writer) }
     ensures cause { IfErr result (λ _. O.has_failed writer.new) }
 {
-    if machine.is_busy() {
-        machine.end_character();
-    }
-    let did = machine.step();
+    let did = machine.make_step();
     paper.print(writer, &did)?;
     Ok(did)
 }

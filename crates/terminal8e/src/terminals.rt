@@ -1,7 +1,8 @@
 //! An 8/E at a terminal whose keys are known, step by step.
 
 ghost use Rattle.std.specs.Prelude.{◌≡◌, ◌+◌, ◌^◌, ◌<◌, ◌≤◌};
-ghost use Rattle.terminal8e.specs.Terminal.{after_attention, next, starves, after_step};
+ghost use Rattle.terminal8e.specs.Terminal.{next, starves, after_step};
+ghost use Rattle.terminal8e.specs.TerminalSteps.{after_attention};
 ghost use Rattle.terminal8e.specs.Laws.{terminal_with_keys};
 
 use crate::asking::{asks_for_key, waits_for_key};
@@ -56,7 +57,9 @@ impl<'k> Terminal<'k> {
     pub fn starves(&self) -> bool
         ensures { result ≡ starves self.now }
     {
-        self.keys.is_empty() && waits_for_key(&self.machine)
+        self.keys.is_empty()
+            && asks_for_key(self.since, &self.machine)
+            && waits_for_key(&self.machine)
     }
 
     /// One step. Where the program asks for a key the next one is struck. Then the printer ends its character where it is busy, and

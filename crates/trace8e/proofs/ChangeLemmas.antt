@@ -13,7 +13,8 @@ use Rattle.cpu8e.specs.Operate.{is_privileged, operate_row}
 use Rattle.cpu8e.specs.Step.{after_instruction, device_row, is_jump, is_reference, is_transfer, next_word, step, transfer_row}
 use Rattle.flow8.specs.Flow.{IsAmong}
 use Rattle.terminal8e.specs.Asks.{asks_for_key}
-use Rattle.terminal8e.specs.Terminal.{Terminal, after_attention, after_look, after_step}
+use Rattle.terminal8e.specs.Terminal.{Terminal, after_step}
+use Rattle.terminal8e.specs.TerminalSteps.{after_attention, after_look}
 use Rattle.trace8.specs.Stores.{changing_cells}
 use Rattle.trace8.proofs.ChangeLemmas as pdp8i
 use Rattle.trace8.proofs.ChangeLemmas.{either, changed_at}

@@ -1,3 +1,5 @@
 pub mod ChangeLemmas
 pub mod LineLemmas
 pub mod RunLemmas
+pub mod CountLemmas
+pub mod ProfileRunLemmas

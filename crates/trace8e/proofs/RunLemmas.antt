@@ -7,7 +7,9 @@ use Rattle.cpu8.specs.declared.outcomes.Stepped.{Stepped}
 use Rattle.cpu8.specs.declared.outcomes.Stepped.TheVariants.{Stopped, Interrupted, Ran, Halted, Unassigned}
 use Rattle.terminal8e.specs.Asks.{asks_for_key}
 use Rattle.terminal8.specs.Terminal.{has_halted, stop_of}
-use Rattle.terminal8e.specs.Terminal.{Terminal, last_did, later, after_look, next, starves, after_step, Ends, GoesOn}
+use Rattle.terminal8e.specs.AnyTerminal as any
+use Rattle.terminal8e.specs.Terminal.{Terminal, later, next, starves, after_step, GoesOn}
+use Rattle.terminal8e.specs.TerminalSteps.{last_did, after_look, Ends}
 use Rattle.terminal8.specs.declared.outcomes.Ended.{Ended}
 use Rattle.terminal8.specs.declared.outcomes.TerminalEnd.{TerminalEnd}
 use Rattle.terminal8.specs.declared.outcomes.TerminalEnd.TheVariants as why
@@ -22,19 +24,19 @@ use Rattle.trace8e.proofs.LineLemmas.{lines-next, lines-none}
 -- ## Steps of a terminal
 
 later-none : (t : Terminal) → later 0 t ≡ t
-unfolding later
+unfolding any.later
 later-none t = refl
 
 later-next : (k : ℕ) (t : Terminal) → later (k + 1) t ≡ next (later k t)
-unfolding later
+unfolding any.later
 later-next k t = rw add-one refl
 
 did-none : (t : Terminal) → last_did 0 t ≡ (if t.machine.base.running then Ran None else Stopped)
-unfolding last_did
+unfolding any.last_did
 did-none t = refl
 
 did-next : (k : ℕ) (t : Terminal) → last_did (k + 1) t ≡ (after_step (later k t)).1
-unfolding last_did
+unfolding any.last_did
 did-next k t = rw add-one refl
 
 looked-since : (s : State8e) (looks : List (Option ℕ)) → (after_look s looks).since ≡ 0

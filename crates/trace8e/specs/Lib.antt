@@ -3,3 +3,4 @@ pub mod Trace
 pub mod Tracing
 pub mod StoresSteps
 pub mod TracingSteps
+pub mod Counts

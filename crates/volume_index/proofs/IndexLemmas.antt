@@ -9,7 +9,7 @@ use Rattle.os8_dir.specs.declared.entries.DirEntry.TheVariants.{File, Empty}
 use Rattle.char_pack.specs.Packing.{frames}
 use Rattle.file_kind.specs.Kinds.{IsKind}
 use Rattle.file_kind.specs.declared.kinds.FileKind.{FileKind}
-use Rattle.index_lines.specs.Lines.{index_line}
+use Rattle.volume_index.specs.Lines.{index_line}
 use Rattle.volume_image.specs.Image.{IsImageOf}
 use Rattle.os8_dir.specs.Entries.{DirectoryState, IsTidy, size_of, total}
 use Rattle.os8_dir.specs.Reading.{directory_of}

@@ -1,2 +1,4 @@
 pub mod IndexLemmas
 pub mod JsonLemmas
+pub mod QuoteLemmas
+mod SameLemmas

@@ -13,8 +13,8 @@ use Rattle.os8_dir.specs.Found.{FilePlace, files_at}
 use Rattle.os8_dir.specs.Files.{run}
 use Rattle.os8_dir.specs.Reading.{directory_of}
 use Rattle.name_spelling.specs.Patterns.{is_choice, matches}
-use Rattle.index_lines.specs.Lines.{index_line}
-use Rattle.index_lines.specs.declared.lines.IndexEntry.{IndexEntry}
+use Rattle.volume_index.specs.Lines.{index_line}
+use Rattle.volume_index.specs.declared.lines.IndexEntry.{IndexEntry}
 use Rattle.archive_files.specs.declared.faults.ArchiveFault.{ArchiveFault}
 use Rattle.archive_files.specs.Getting.{line_feeds}
 use Rattle.archive_files.specs.Opening.{IsUnopened}

@@ -4,3 +4,11 @@ pub mod Indexing
 pub mod Json
 pub mod Laws
 pub mod Years
+pub mod Quoting
+pub mod Columns
+pub mod Lines
+pub mod LineLaws
+pub mod Digests
+pub mod TextLines
+pub mod Same
+pub mod Steps

@@ -1,19 +1,31 @@
-//! The index of a volume: a line for each of its files, by the bytes of its image.
+//! The index of a volume: a line for each of its files, by the bytes of its image, with tabs between its columns. Also the lines of equal files:
+//! those whose digest another line of an index has too.
 //!
-//! In each contract an image is the list of its bytes.
+//! No name can break a line: what is no graphic character in the name of an image, or in that of a file, is escaped. In each contract an
+//! image, a text and a line are the lists of their bytes.
 #![tactic(auto)]
 
 mod choosing;
+mod columns;
+mod digests;
 mod holding;
 mod indexing;
 mod json;
 mod kinds;
 pub mod laws;
+pub mod line_laws;
+mod lines;
+mod quoting;
+mod same;
 mod styles;
+mod text_lines;
 mod words;
 mod years;
 
 pub use indexing::index_volume;
 pub use json::json_lines;
+pub use lines::{IndexEntry, put_index};
+pub use quoting::put_quoted;
+pub use same::same_lines;
 pub use styles::IndexStyle;
 pub use years::{last_in, last_of};

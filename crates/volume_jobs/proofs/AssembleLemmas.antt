@@ -8,7 +8,7 @@ use Rattle.os8_files.specs.Holds.{times}
 use Rattle.os8_files.specs.Laws.{KeepsHolds}
 use Rattle.os8_files.specs.Mounted.{MountState}
 use Rattle.os8_dir.specs.declared.file_faults.FileFault.TheVariants as file
-use Rattle.pal_asm.specs.declared.faults.AsmFault.TheVariants as asm
+use Rattle.pal_faults.specs.declared.assembling.AsmFault.TheVariants as asm
 use Rattle.pal_blocks.specs.Progress.{IsAssembling}
 use Rattle.volume_jobs.specs.Calls.{NoCallFailed, TurnsOver, LeavesJobs, WorkCalls, IfFile, WorkTellsRoom}
 use Rattle.volume_jobs.specs.Steps.{TurnsJob, plain_after, AreNamed, without_holds, ReadsSource, is_assembled}

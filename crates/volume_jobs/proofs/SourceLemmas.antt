@@ -7,8 +7,8 @@ use Rattle.os8_files.specs.Mounted.{MountState}
 use Rattle.os8_files.specs.Service as service
 use Rattle.os8_dir.specs.declared.file_faults.FileFault.{FileFault}
 use Rattle.os8_dir.specs.declared.file_faults.FileFault.TheVariants as file
-use Rattle.pal_asm.specs.declared.faults.AsmFault.{AsmFault}
-use Rattle.pal_asm.specs.declared.faults.AsmFault.TheVariants as asm
+use Rattle.pal_faults.specs.declared.assembling.AsmFault.{AsmFault}
+use Rattle.pal_faults.specs.declared.assembling.AsmFault.TheVariants as asm
 use Rattle.pal_blocks.specs.Blocks.{blocks_in}
 use Rattle.pal_blocks.specs.Progress.{block_of}
 use Rattle.pal_blocks.specs.Turns.{TakesBlock}

@@ -12,8 +12,8 @@ use Rattle.os8_files.specs.Puts.{PutsFile, HasKept, HasNoEntry, PutFailed, block
 use Rattle.os8_dir.specs.declared.file_faults.FileFault.{FileFault}
 use Rattle.os8_dir.specs.declared.file_faults.FileFault.TheVariants as file
 use Rattle.pal_asm.specs.Faults.{fault_of}
-use Rattle.pal_asm.specs.declared.faults.AsmFault.{AsmFault}
-use Rattle.pal_asm.specs.declared.faults.AsmFault.TheVariants as asm
+use Rattle.pal_faults.specs.declared.assembling.AsmFault.{AsmFault}
+use Rattle.pal_faults.specs.declared.assembling.AsmFault.TheVariants as asm
 use Rattle.pal_blocks.specs.Blocks.{blocks_in}
 use Rattle.pal_blocks.specs.Progress.{IsAssembling}
 use Rattle.pal_blocks.specs.Sources.{newest_first, assembled_words, IsTapeOfSources}

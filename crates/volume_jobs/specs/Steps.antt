@@ -41,7 +41,7 @@ use Rattle.volume_jobs.specs.declared.faults.JobFault.TheVariants as fault
 use Rattle.volume_jobs.specs.declared.kinds.Work.TheVariants as work
 use Rattle.volume_jobs.specs.Jobs as plain
 use Rattle.core_load.specs.Loading as load
-use Rattle.pal_asm.specs.declared.faults.AsmFault.TheVariants as asm
+use Rattle.pal_faults.specs.declared.assembling.AsmFault.TheVariants as asm
 
 -- ## Answers
 

@@ -3,7 +3,7 @@ ghost use Rattle.volume_jobs.specs.Steps.{is_memory};
 
 use bin_tape::TapeFault;
 use os8_files::FileFault;
-use pal_asm::AsmFault;
+use pal_faults::AsmFault;
 use std::alloc::AllocError;
 use thiserror::Error;
 

@@ -9,11 +9,11 @@ use Rattle.os8_files.specs.Puts.{blocks_filled}
 use Rattle.os8_dir.specs.Found.{FilePlace}
 use Rattle.os8_dir.specs.Names.{with_end_zeros}
 use Rattle.word12.specs.declared.sizes.TheConstants.{FIRST_FILE_BLOCK}
-use Rattle.rescue.specs.Rows.{Differ, HasNone, in_a_row}
-use Rattle.rescue.specs.Laws.{AreThere, KeptAreThere, OthersAreNot}
-use Rattle.rescue.specs.Rescued.{AreJudged, files_to_keep}
-use Rattle.rescue.specs.declared.faults.Refusal.{Refusal}
-use Rattle.rescue.specs.declared.volumes.KeptFile.{KeptFile}
+use Rattle.volume_salvage.specs.Rows.{Differ, HasNone, in_a_row}
+use Rattle.volume_salvage.specs.RescueLaws.{AreThere, KeptAreThere, OthersAreNot}
+use Rattle.volume_salvage.specs.Rescued.{AreJudged, files_to_keep}
+use Rattle.volume_salvage.specs.declared.faults.Refusal.{Refusal}
+use Rattle.volume_salvage.specs.declared.volumes.KeptFile.{KeptFile}
 use Rattle.archive_survey.specs.declared.answers.FoundFile.{FoundFile}
 use Rattle.archive_survey.specs.Findings.{findings, files_found}
 use Rattle.archive_survey.specs.Laws.{EachSurveyIsSound, names_of_found}

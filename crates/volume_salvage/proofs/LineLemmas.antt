@@ -1,6 +1,6 @@
 -- The lines of files.
 use Rattle.std.proofs.Common.{◌≡◌, ℕ, ◌∙◌, Option, List, [], ◌∷◌, ◌++◌, refl, sym, ap, append_assoc, append-nil}
-use Rattle.rescue.specs.declared.faults.Refusal.{Refusal}
+use Rattle.volume_salvage.specs.declared.faults.Refusal.{Refusal}
 use Rattle.archive_survey.specs.declared.answers.FoundFile.{FoundFile}
 use Rattle.volume_salvage.specs.Salvaging.{file_line, file_lines}
 

@@ -1,9 +1,9 @@
 -- What a salvage is made of.
 use Rattle.std.proofs.Common.{◌≡◌, ◌∙◌, ℕ, Option, List, ◌++◌, length, ap, subst}
-use Rattle.rescue.specs.Rescued.{IsFitted}
-use Rattle.rescue.specs.declared.faults.Refusal.{Refusal}
-use Rattle.rescue.specs.declared.fitting.FittedVolume.{FittedVolume}
-use Rattle.rescue.specs.declared.volumes.KeptFile.{KeptFile}
+use Rattle.volume_salvage.specs.Rescued.{IsFitted}
+use Rattle.volume_salvage.specs.declared.faults.Refusal.{Refusal}
+use Rattle.volume_salvage.specs.declared.fitting.FittedVolume.{FittedVolume}
+use Rattle.volume_salvage.specs.declared.volumes.KeptFile.{KeptFile}
 use Rattle.archive_survey.specs.declared.answers.FoundFile.{FoundFile}
 use Rattle.archive_survey.specs.declared.answers.Survey.{Survey}
 use Rattle.archive_survey.specs.Findings.{findings, files_found}

@@ -5,7 +5,7 @@ use Rattle.std.proofs.Math.Seq.{take-suc}
 use Rattle.std.proofs.lemmas.List.{append-nil, get_or-drop, take_all}
 use Rattle.std.proofs.lemmas.Option.{get_or_from_slice_get}
 use Rattle.os8_dir.specs.Files.{join_blocks, run}
-use Rattle.rescue.specs.declared.volumes.KeptFile.{KeptFile}
+use Rattle.volume_salvage.specs.declared.volumes.KeptFile.{KeptFile}
 use Rattle.archive_survey.specs.declared.answers.FoundFile.{FoundFile}
 use Rattle.archive_survey.specs.Laws.{AreInside}
 use Rattle.volume_salvage.specs.Salvaging.{AreFilesOf}

@@ -7,8 +7,8 @@ use Rattle.os8_dir.specs.Found.{FilePlace}
 use Rattle.os8_dir.specs.Names.{with_end_zeros}
 use Rattle.os8_dir.specs.Reading.{directory_of}
 use Rattle.os8_files.specs.Calls.{info_of}
-use Rattle.rescue.specs.Rows.{files_by_place}
-use Rattle.rescue.specs.declared.faults.Refusal.{Refusal}
+use Rattle.volume_salvage.specs.Rows.{files_by_place}
+use Rattle.volume_salvage.specs.declared.faults.Refusal.{Refusal}
 use Rattle.archive_survey.specs.declared.answers.FoundFile.{FoundFile}
 use Rattle.archive_survey.specs.Findings.{findings, files_found}
 use Rattle.archive_survey.specs.Laws.{names_of_found}

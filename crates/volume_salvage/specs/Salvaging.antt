@@ -2,13 +2,13 @@
 use Rattle.std.specs.Prelude.{◌≡◌, ℕ, ◌+◌, ◌&&◌, Bool, true, nat_eq, if◌then◌else◌, codes, decimal, Option, None, Some, Result, Ok, Err, List, [], ◌∷◌, ◌++◌, length, drop}
 use Rattle.volume_image.specs.Image.{IsImageOf, ReadsImage}
 use Rattle.os8_dir.specs.Files.{run}
-use Rattle.rescue.specs.Rescued.{IsFitted}
-use Rattle.rescue.specs.declared.faults.Refusal.{Refusal}
-use Rattle.rescue.specs.declared.faults.Refusal.TheVariants.{NoName, NotWhole, NoRoom, DirectoryFull, Failed}
-use Rattle.rescue.specs.declared.fitting.FittedVolume.{FittedVolume}
-use Rattle.rescue.specs.declared.volumes.KeptFile.{KeptFile}
+use Rattle.volume_salvage.specs.Rescued.{IsFitted}
+use Rattle.volume_salvage.specs.declared.faults.Refusal.{Refusal}
+use Rattle.volume_salvage.specs.declared.faults.Refusal.TheVariants.{NoName, NotWhole, NoRoom, DirectoryFull, Failed}
+use Rattle.volume_salvage.specs.declared.fitting.FittedVolume.{FittedVolume}
+use Rattle.volume_salvage.specs.declared.volumes.KeptFile.{KeptFile}
 use Rattle.name_spelling.specs.Spelling.{text_of}
-use Rattle.script8.specs.declared.faults.SessionFault.TheVariants.{Memory}
+use Rattle.refusals.specs.declared.faults.SessionFault.TheVariants.{Memory}
 use Rattle.archive_files.specs.declared.faults.ArchiveFault.{ArchiveFault}
 use Rattle.archive_files.specs.declared.faults.ArchiveFault.TheVariants.{Image, Directory, Refused}
 use Rattle.archive_survey.specs.declared.answers.FoundFile.{FoundFile}

@@ -4,11 +4,11 @@ ghost use Rattle.arrayvec.specs.ArrayVec.{array_vec_len};
 ghost use Rattle.volume_salvage.specs.Salvaging as spec;
 ghost use Rattle.volume_salvage.specs.Salvaging.{cut_line, extent_text, file_line, file_lines, reason_text, rescued_line};
 
+use crate::Refusal;
 use archive_survey::FoundFile;
 use name_spelling::put_spelled;
 use os8_dir::Name;
-use rescue::Refusal;
-use script8::text_lines::{TextLine, put, put_number};
+use refusals::text_lines::{TextLine, put, put_number};
 use std::alloc::AllocError;
 use word12::Word;
 

@@ -1,17 +1,17 @@
 //! The files that a damaged volume still shows, in a new one.
 ghost use Rattle.std.specs.Prelude.{◌≡◌, IfErr, IfOk};
 ghost use Rattle.volume_image.specs.Image.{IsImageOf};
-ghost use Rattle.rescue.specs.Rescued.{IsFitted};
+ghost use Rattle.volume_salvage.specs.Rescued.{IsFitted};
 ghost use Rattle.volume_image.specs.Volume.{IsVolume};
 ghost use Rattle.volume_salvage.specs.Salvaging.{IsNoImage, IsSalvageOf, Salvages, is_complete as is_complete_salvage, rescued_text};
 
 use crate::lines::{count_kept, put_files, put_rescued};
 use crate::words::files_with_words;
+use crate::{FittedVolume, KeptFile, volume_of_what_fits};
 use archive_files::ArchiveFault;
 use archive_survey::laws::sound_files;
 use archive_survey::survey_volume;
-use rescue::{FittedVolume, KeptFile, volume_of_what_fits};
-use script8::SessionFault;
+use refusals::SessionFault;
 use std::alloc::{AllocError, Global};
 use volume_image::{BlockStore, ImageFault, MemoryVolume};
 

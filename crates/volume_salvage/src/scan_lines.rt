@@ -6,7 +6,7 @@ ghost use Rattle.volume_salvage.specs.Scanning.{characters_in, detail, first_lin
 
 use crate::pieces::{Piece, PieceKind};
 use char_pack::BLOCK_FRAMES;
-use script8::text_lines::{TextLine, put, put_number};
+use refusals::text_lines::{TextLine, put, put_number};
 use std::alloc::AllocError;
 
 /// The most characters of a text's first line that are shown.

@@ -4,8 +4,8 @@ ghost use Rattle.os8_dir.specs.Files.{run};
 ghost use Rattle.archive_survey.specs.Laws.{AreInside};
 ghost use Rattle.volume_salvage.specs.Salvaging.{AreFilesOf};
 
+use crate::KeptFile;
 use archive_survey::FoundFile;
-use rescue::KeptFile;
 use std::alloc::{AllocError, Global};
 use volume_image::{BlockStore, MemoryVolume};
 use word12::Word;

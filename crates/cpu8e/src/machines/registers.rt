@@ -3,7 +3,7 @@
 ghost use Rattle.std.specs.Prelude.{◌≡◌, ◌<◌};
 ghost use Rattle.word12.specs.declared.sizes.TheConstants.{CORE};
 ghost use Rattle.cpu8.specs.State.{next_cell};
-ghost use Rattle.cpu8e.specs.State.{save_field};
+ghost use Rattle.cpu8e.specs.State.{grants_interrupt, save_field};
 
 use super::Machine;
 use word12::{Cell, Word};
@@ -190,5 +190,20 @@ impl Machine {
         ensures { result ≡ self.now.console_enabled }
     {
         self.processor.console_enabled
+    }
+    /// Whether a device beside the console requests an interrupt.
+    #[inline]
+    pub fn device_request(&self) -> bool
+        ensures { result ≡ self.now.device_request }
+    {
+        self.processor.device_request
+    }
+
+    /// Whether an interrupt comes in place of the next instruction, if the machine runs.
+    #[inline]
+    pub fn grants_interrupt(&self) -> bool
+        ensures { result ≡ grants_interrupt self.now }
+    {
+        self.processor.grants_interrupt()
     }
 }

@@ -4,7 +4,7 @@ ghost use Rattle.std.specs.Prelude.{◌≡◌, ◌<◌, None};
 ghost use Rattle.cpu8.specs.State as Pdp8i;
 ghost use Rattle.cpu8.specs.Step as Steps8i;
 ghost use Rattle.cpu8.specs.declared.outcomes.Stepped.TheVariants.{Ran};
-ghost use Rattle.cpu8e.specs.State.{with_core};
+ghost use Rattle.cpu8e.specs.State.{device_answered, with_core};
 ghost use Rattle.cpu8e.specs.Step.{after_instruction, device_row, transfer_row};
 
 use super::Processor;
@@ -33,6 +33,15 @@ impl Processor {
             self.user_flag = self.user_buffer;
         }
         Stepped::Ran { printed: None }
+    }
+
+    /// An IOT that a device beside the console does.
+    #[inline(always)]
+    pub(crate) fn answer_device(&mut self, ac: Word, skips: bool)
+        ensures { self.new ≡ device_answered self.old ac skips }
+    {
+        self.base.skip(skips);
+        self.base.ac = ac;
     }
 
     /// An IOT. In user mode none is done: the user request is set instead.

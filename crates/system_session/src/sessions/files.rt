@@ -7,7 +7,7 @@ ghost use Rattle.os8_files.specs.Puts.{TellsRoom};
 ghost use Rattle.os8_dir.specs.declared.file_faults.FileFault.TheVariants.{Busy, Stopped};
 ghost use Rattle.script8.specs.declared.entries.Entry.TheVariants as entry;
 ghost use Rattle.script8.specs.declared.entries.FileEntry.TheVariants as filing;
-ghost use Rattle.script8.specs.declared.faults.SessionFault.TheVariants.{BadText, File};
+ghost use Rattle.refusals.specs.declared.faults.SessionFault.TheVariants.{BadText, File};
 ghost use Rattle.system_session.specs.Room.{IfFile, EntryTellsRoom};
 ghost use Rattle.system_session.specs.SessionSteps.{LeavesAlone, DoesEntry};
 
@@ -16,7 +16,8 @@ use char_pack::{TextFault, is_storable, store};
 use os8_dir::Name;
 use os8_files::FileFault;
 use os8_files::laws::{block_reads, file_places, kept_holds};
-use script8::{FileEntry, FileLengths, LineReply, Reply, Report, SessionFault};
+use refusals::SessionFault;
+use script8::{FileEntry, FileLengths, LineReply, Reply, Report};
 use std::alloc::Global;
 use volume_image::BlockStore;
 use volume_jobs::laws::{disturbed_jobs, held_names, settled_calls};

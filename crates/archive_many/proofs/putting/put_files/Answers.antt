@@ -2,7 +2,7 @@ use Rattle.std.proofs.Common.{◌-◌, Err, List, Ok, drop, length, subst, sym, 
 use Rattle.std.specs.Option.{option_copied}
 use Rattle.std.proofs.lemmas.Result.{err_from_is_err_and}
 use Rattle.os8_dir.specs.declared.file_faults.FileFault.TheVariants.{BadName}
-use Rattle.script8.specs.declared.faults.SessionFault.TheVariants.{File}
+use Rattle.refusals.specs.declared.faults.SessionFault.TheVariants.{File}
 use Rattle.archive_many.specs.PutSteps.{PutsFiles}
 use Rattle.archive_many.specs.declared.putting.NewFile.{NewFile}
 use Rattle.archive_many.proofs.PutLemmas.{begins-low, first-and-others, free-again, head-put, head-refused, none-put, ready-again}

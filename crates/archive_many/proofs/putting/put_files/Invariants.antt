@@ -2,7 +2,7 @@ use Rattle.std.proofs.Common.{◌≡◌, [], List, ℕ, Result, length}
 use Rattle.std.specs.Option.{option_copied}
 use Rattle.os8_files.specs.Mounted.{MountState}
 use Rattle.os8_files.specs.Calls.{IsReady}
-use Rattle.script8.specs.declared.faults.SessionFault.{SessionFault}
+use Rattle.refusals.specs.declared.faults.SessionFault.{SessionFault}
 use Rattle.archive_many.specs.PutSteps.{PutsFiles}
 use Rattle.archive_many.proofs.putting.put_files.Given as goal
 

@@ -1,5 +1,5 @@
 use Rattle.std.proofs.Common.{Ok, inl, inr, map, option_copied, refl, subst, sym}
-use Rattle.script8.specs.declared.faults.SessionFault.TheVariants.{Memory}
+use Rattle.refusals.specs.declared.faults.SessionFault.TheVariants.{Memory}
 use Rattle.outcome.specs.declared.endings.Ending.TheVariants.{Fault}
 use Rattle.assemble_commands.specs.Sources.{ReadsEach, ReadsSource}
 use Rattle.assemble_commands.proofs.SourceLemmas.{unkept}

@@ -1,5 +1,5 @@
 use Rattle.command_table.proofs.Names.{◌≡◌, codes, refl, subst, sym, true, Text}
-use Rattle.command_refusals.specs.declared.refusals.What.TheVariants as what
+use Rattle.command_refusals.specs.declared.reasons.What.TheVariants as what
 use Rattle.command_table.specs.declared.table.Verb.TheVariants as verb
 use Rattle.command_table.specs.Values.{Has, has_text, kind_at, takes_text, values_in}
 use Rattle.command_table.specs.Tables.{rows_for}

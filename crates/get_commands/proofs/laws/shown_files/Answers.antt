@@ -1,7 +1,7 @@
 use Rattle.archive_files.specs.Getting.{Gets}
-use Rattle.asked_files.specs.Asking.{wanted_file}
+use Rattle.archive_files.specs.Asking.{target_of}
 use Rattle.get_commands.proofs.Looking.{blocks-never, shows-never, tape-never}
 use Rattle.get_commands.proofs.laws.shown_files.Goals as goal
 
 pub returns : goal.returns
-returns c = record { gets = λ file how. shows-never (λ bytes. Gets bytes (wanted_file file) how); blocks = blocks-never; tape = tape-never }
+returns c = record { gets = λ file how. shows-never (λ bytes. Gets bytes (target_of file) how); blocks = blocks-never; tape = tape-never }

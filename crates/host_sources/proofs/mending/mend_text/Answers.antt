@@ -1,7 +1,7 @@
 use Rattle.std.proofs.Common.{◌∷◌, get_or, is_some, sym, ap, ◌∙◌}
 use Rattle.pal_lex.specs.Text.{text_of, stretch}
 use Rattle.pal_lex.specs.Cutting.{pieces}
-use Rattle.statement_runs.specs.Runs.{first_run, sets_reading}
+use Rattle.host_sources.specs.Runs.{first_run, sets_reading}
 use Rattle.host_sources.specs.Mending as mending
 use Rattle.host_sources.proofs.MendLemmas.{refused_short, made_harmless}
 use Rattle.host_sources.proofs.mending.mend_text.Goals as goal

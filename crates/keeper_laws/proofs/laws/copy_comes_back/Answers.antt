@@ -1,8 +1,7 @@
 use Rattle.std.proofs.Common.{Ok, subst}
-use Rattle.archive_files.specs.Asking.{Target}
+use Rattle.archive_files.specs.Asking.{Target, target_of}
 use Rattle.archive_files.specs.Copying.{CopiesFile}
 use Rattle.change_commands.specs.Copying.{new_name}
-use Rattle.asked_files.specs.Asking.{wanted_file}
 use Rattle.keeper_laws.proofs.AgainLemmas.{copied-words, got-again, name-kept, name-typed, other-words}
 use Rattle.keeper_laws.proofs.BackLemmas.{is-printed}
 use Rattle.keeper_laws.proofs.laws.copy_comes_back.Goals as goal
@@ -11,10 +10,10 @@ pub returns-clause-copies : goal.returns-clause-copies
 returns-clause-copies c form ok old new copied name how before named gets =
     is-printed form.to copied.has.file copied.made.bytes.items name before.items how copied.has.found
     (λ answer again. got-again c.image_round_trip.ensures.written_is_read_back c.longer_tape.ensures c.no_fault.ensures copied.made.bytes.items name gets.0 before.items how answer
-    (copied-words c.copied_file.ensures.same copied.from copied.image.bytes.items name (wanted_file form.file) (new_name form) copied.made gets.0 copied.copies named gets.1) gets.2 again)
+    (copied-words c.copied_file.ensures.same copied.from copied.image.bytes.items name (target_of form.file) (new_name form) copied.made gets.0 copied.copies named gets.1) gets.2 again)
 
 pub returns-clause-typed : goal.returns-clause-typed
-returns-clause-typed c form ok old new copied name is = name-typed copied.from copied.image.bytes.items name (wanted_file form.file) (new_name form) copied.made copied.copies is
+returns-clause-typed c form ok old new copied name is = name-typed copied.from copied.image.bytes.items name (target_of form.file) (new_name form) copied.made copied.copies is
 
 pub returns-clause-kept : goal.returns-clause-kept
 returns-clause-kept c form ok old new copied name is meant =
@@ -24,4 +23,4 @@ pub returns-clause-others : goal.returns-clause-others
 returns-clause-others c form ok old new copied name how before differ gets =
     is-printed form.to copied.has.file copied.made.bytes.items name before.items how copied.has.found
     (λ answer again. got-again c.image_round_trip.ensures.written_is_read_back c.longer_tape.ensures c.no_fault.ensures copied.made.bytes.items name gets.0 before.items how answer
-    (other-words c.copied_file.ensures.others copied.from copied.image.bytes.items name (wanted_file form.file) (new_name form) copied.made gets.0 copied.copies differ gets.1) gets.2 again)
+    (other-words c.copied_file.ensures.others copied.from copied.image.bytes.items name (target_of form.file) (new_name form) copied.made gets.0 copied.copies differ gets.1) gets.2 again)

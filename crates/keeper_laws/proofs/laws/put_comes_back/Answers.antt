@@ -1,34 +1,35 @@
-use Rattle.char_pack.specs.declared.forms.GetForm.TheVariants as get_as
-use Rattle.char_pack.specs.declared.forms.PutForm.TheVariants as put_as
-use Rattle.archive_files.specs.Asking.{OfName}
-use Rattle.archive_files.specs.Getting.{line_feeds}
-use Rattle.archive_files.specs.Laws.{whole_blocks}
-use Rattle.archive_many.specs.Putting.{info_or}
-use Rattle.image_files.specs.Dates.{word_of_day}
+use Rattle.std.proofs.Common.{List, Ok, subst}
+use Rattle.name_spelling.specs.Reading.{typed_name}
+use Rattle.archive_many.specs.Putting.{PutsAll}
+use Rattle.archive_many.specs.declared.putting.NewFile.{NewFile}
 use Rattle.image_files.specs.Stored.{words_of}
-use Rattle.keeper_laws.proofs.BackLemmas.{is-printed, put-as}
+use Rattle.put_commands.specs.Putting.{paths_of}
+use Rattle.keeper_laws.specs.Stored.{AreGiven}
+use Rattle.keeper_laws.proofs.AgainLemmas.{got-again}
+use Rattle.keeper_laws.proofs.BackLemmas.{is-printed}
+use Rattle.keeper_laws.proofs.ManyBackLemmas.{frames-back, named-so, other-file, tape-back, text-back, typed-so}
 use Rattle.keeper_laws.proofs.laws.put_comes_back.Goals as goal
 
+pub returns-clause-named : goal.returns-clause-named
+returns-clause-named c form ok old new stored file text are is =
+    let puts = subst (λ (l : List NewFile). PutsAll stored.image.bytes.items l (words_of form.info) (Ok stored.stored)) are stored.puts in
+    typed-so (typed_name text) file.name (named-so form (paths_of form) file text (subst (λ (l : List NewFile). AreGiven form (paths_of form) l) are stored.given) is) puts.put.1.named
+
 pub returns-clause-frames : goal.returns-clause-frames
-returns-clause-frames c form ok old new stored is small =
-    is-printed form.image stored.has.file stored.stored.bytes.items form.name.bytes.items (whole_blocks stored.given) get_as.Frames stored.has.found
-    (λ answer gets. c.put_is_got.ensures.frames stored.image.bytes.items form.name.bytes.items stored.given (info_or (word_of_day stored.day) (words_of form.info)) stored.stored answer small
-    (put-as form ok old new stored put_as.Frames is) gets)
+returns-clause-frames c form ok old new stored before following file name are last named is small =
+    frames-back form.image stored.has.file stored.image.bytes.items stored.files (words_of form.info) stored.stored stored.puts stored.has.found
+    c.image_round_trip.ensures.written_is_read_back c.longer_tape.ensures c.no_fault.ensures c.put_many_is_got.ensures.there c.packed_bytes.ensures.blocks before following file name are last named is small
 
 pub returns-clause-tape : goal.returns-clause-tape
-returns-clause-tape c form ok old new stored tape is small is_tape =
-    is-printed form.image stored.has.file stored.stored.bytes.items form.name.bytes.items tape get_as.Tape stored.has.found
-    (λ answer gets. c.put_is_got.ensures.tape stored.image.bytes.items form.name.bytes.items stored.given tape (info_or (word_of_day stored.day) (words_of form.info)) stored.stored answer small is_tape
-    (put-as form ok old new stored put_as.Frames is) gets)
+returns-clause-tape c form ok old new stored file name tape are named is small is_tape =
+    tape-back form.image stored.has.file stored.image.bytes.items stored.files (words_of form.info) stored.stored stored.puts stored.has.found file name are named c.put_is_got.ensures.tape tape is small is_tape
 
 pub returns-clause-text : goal.returns-clause-text
-returns-clause-text c form ok old new stored is =
-    is-printed form.image stored.has.file stored.stored.bytes.items form.name.bytes.items (line_feeds stored.given) get_as.Text stored.has.found
-    (λ answer gets. c.put_is_got.ensures.lines.ends stored.image.bytes.items form.name.bytes.items stored.given (info_or (word_of_day stored.day) (words_of form.info)) stored.stored answer
-    (put-as form ok old new stored put_as.Text is) gets)
+returns-clause-text c form ok old new stored file name are named is =
+    text-back form.image stored.has.file stored.image.bytes.items stored.files (words_of form.info) stored.stored stored.puts stored.has.found file name are named c.put_is_got.ensures.lines is
 
 pub returns-clause-others : goal.returns-clause-others
-returns-clause-others c form ok old new stored blocks name how before is_image other gets_before =
+returns-clause-others c form ok old new stored name number how before named none gets =
     is-printed form.image stored.has.file stored.stored.bytes.items name before.items how stored.has.found
-    (λ answer gets. c.put_is_got.ensures.others stored.image.bytes.items form.name.bytes.items stored.given (OfName name) (info_or (word_of_day stored.day) (words_of form.info)) form.form how stored.stored before answer blocks
-    is_image other stored.puts gets_before gets)
+    (λ answer again. got-again c.image_round_trip.ensures.written_is_read_back c.longer_tape.ensures c.no_fault.ensures stored.stored.bytes.items name gets.0 before.items how answer
+    (other-file c.put_many_is_got.ensures.others stored.image.bytes.items name gets.0 number stored.files (words_of form.info) stored.stored stored.puts none named gets.1) gets.2 again)

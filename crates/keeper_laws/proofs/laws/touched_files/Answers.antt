@@ -2,7 +2,6 @@ use Rattle.keeper_laws.specs.Changes.{HasDeleted, HasEmptied, HasPatched, HasRen
 use Rattle.keeper_laws.specs.Copied.{HasCopied}
 use Rattle.keeper_laws.specs.CopiedAll.{HasCopiedAll}
 use Rattle.keeper_laws.specs.Stored.{HasStored}
-use Rattle.keeper_laws.specs.StoredAll.{HasStoredAll}
 use Rattle.keeper_laws.proofs.TouchLemmas.{ends-touches, gets-touches, patch-touches}
 use Rattle.keeper_laws.proofs.laws.touched_files.Goals as goal
 
@@ -10,17 +9,13 @@ pub returns-clause-puts : goal.returns-clause-puts
 returns-clause-puts c form old result new p =
     ends-touches form.image (HasStored form) (λ ok old new s. gets-touches form.image s.image s.path s.was s.stored.bytes.items old new s.opened s.has) result old new (c.ended_changes.ensures.puts form old result new p)
 
-pub returns-clause-puts_all : goal.returns-clause-puts_all
-returns-clause-puts_all c form old result new p =
-    ends-touches form.image (HasStoredAll form) (λ ok old new s. gets-touches form.image s.image s.path s.was s.stored.bytes.items old new s.opened s.has) result old new (c.ended_many.ensures.puts form old result new p)
-
 pub returns-clause-copies : goal.returns-clause-copies
 returns-clause-copies c form old result new p =
     ends-touches form.to (HasCopied form) (λ ok old new s. gets-touches form.to s.image s.path s.was s.made.bytes.items old new s.opened s.has) result old new (c.ended_changes.ensures.copies form old result new p)
 
 pub returns-clause-copies_all : goal.returns-clause-copies_all
 returns-clause-copies_all c form old result new p =
-    ends-touches form.to (HasCopiedAll form) (λ ok old new s. gets-touches form.to s.image s.path s.was s.made.items old new s.opened s.has) result old new (c.ended_many.ensures.copies form old result new p)
+    ends-touches form.to (HasCopiedAll form) (λ ok old new s. gets-touches form.to s.image s.path s.was s.made.items old new s.opened s.has) result old new (c.ended_changes.ensures.copies_all form old result new p)
 
 pub returns-clause-squeezes : goal.returns-clause-squeezes
 returns-clause-squeezes c form old result new p =

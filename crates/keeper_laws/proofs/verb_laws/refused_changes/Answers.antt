@@ -1,5 +1,5 @@
-use Rattle.keeper_laws.proofs.RefusedLemmas.{copies-leave, deletes-leave, puts-leave, renames-leave, squeezes-leave}
+use Rattle.keeper_laws.proofs.RefusedLemmas.{copies-leave, deletes-leave, renames-leave, squeezes-leave}
 use Rattle.keeper_laws.proofs.verb_laws.refused_changes.Goals as goal
 
 pub returns : goal.returns
-returns c = record { puts = puts-leave; deletes = deletes-leave; copies = copies-leave; renames = renames-leave; squeezes = squeezes-leave }
+returns c = record { puts = c.refused_puts.ensures; deletes = deletes-leave; copies = copies-leave; renames = renames-leave; squeezes = squeezes-leave }

@@ -1,19 +1,20 @@
-use Rattle.std.proofs.Common.{Bool, Ok, length, subst, sym, ◌∙◌}
+use Rattle.std.proofs.Common.{Option, length, subst}
 use Rattle.pal_lex.specs.Text.{limit}
-use Rattle.pal8_lex.specs.Reading.{Answers}
+use Rattle.pal8_lex.specs.declared.rules.End.{End}
+use Rattle.pal8_asm.specs.Pushing.{EndsStatement}
 use Rattle.pal8_asm.specs.Sources.{statements}
-use Rattle.pal8_join.specs.Joins.{pass_on}
-use Rattle.pal8_listing.proofs.ByteLemmas.{ends_there, goes_on}
+use Rattle.pal8_tape.specs.Joins.{pass_on}
+use Rattle.pal8_listing.specs.Uses.{names_read}
+use Rattle.pal8_listing.proofs.ItemLemmas.{ends_one, goes_on}
 use Rattle.pal8_listing.proofs.mentions.meet_byte.Goals as goal
 
-pub returns-then-not-branch : goal.returns-then-not-branch
-returns-then-not-branch c = λ first here meets.
-    goes_on first here c.args.byte c.push.new.self c.args.pass.now c.args.found.now.items
-    (subst (λ (b : Bool). Answers here c.args.byte (Ok b) c.push.new.self) c.if-not-branch.true (c.in_ok-push.ensures here meets.has_read)) meets.follows meets.are
-
 pub returns-in-Some : goal.returns-in-Some
-returns-in-Some c = λ first here meets.
-    ends_there first here c.args.byte c.push.new.self c.meet_statement.new.pass c.in-Some.end (sym c.end.ensures ∙ c.in-Some.is)
-    (subst (λ (b : Bool). Answers here c.args.byte (Ok b) c.push.new.self) c.if-not-branch.false (c.in_ok-push.ensures here meets.has_read))
-    c.args.found.now.items c.meet_statement.new.found.items meets.are
-    c.meet_statement.result (c.meet_statement.ensures (limit (length here)) (pass_on first (statements here)) meets.follows)
+returns-in-Some c = λ first here looked.
+    ends_one names_read first here c.args.byte c.args.lexer.now c.push_byte.new.lexer c.args.pass.now c.args.found.now.items looked c.in-Some.end
+    (subst (λ (e : Option End). EndsStatement here c.args.byte e c.push_byte.new.lexer) c.in-Some.is (c.in_ok-end.ensures here looked.has_read))
+    c.meet_statement.new.found.items c.meet_statement.new.pass c.meet_statement.result (c.meet_statement.ensures (limit (length here)) (pass_on first (statements here)) looked.follows)
+
+pub returns-in-None : goal.returns-in-None
+returns-in-None c = λ first here looked.
+    goes_on names_read first here c.args.byte c.args.lexer.now c.push_byte.new.lexer c.args.pass.now c.args.found.now.items looked
+    (subst (λ (e : Option End). EndsStatement here c.args.byte e c.push_byte.new.lexer) c.in-None.is (c.in_ok-end.ensures here looked.has_read))

@@ -1,5 +1,5 @@
 use Rattle.std.proofs.Common.{◌≡◌, ◌≤◌, Bool, None, length, map, take, ap, refl, sym, subst, ◌∙◌, arith}
-use Rattle.pal8_join.specs.Joins.{bytes_in}
+use Rattle.pal8_tape.specs.Joins.{bytes_in}
 use Rattle.pal8_tape.specs.Further.{ended_texts, faults_after, further_fault, is_passed, next_texts}
 use Rattle.pal8_tape.specs.MendSteps.{Mends}
 use Rattle.pal8_tape.specs.declared.further.TheConstants.{MOST_HARMLESS}

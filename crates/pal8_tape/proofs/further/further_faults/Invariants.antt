@@ -1,5 +1,5 @@
 use Rattle.std.proofs.Common.{◌≡◌, ◌≤◌, ◌++◌, length, map}
-use Rattle.pal8_join.specs.Joins.{bytes_in}
+use Rattle.pal8_tape.specs.Joins.{bytes_in}
 use Rattle.pal8_tape.specs.Further.{ended_texts, faults_after}
 use Rattle.pal8_tape.specs.declared.further.TheConstants.{MOST_HARMLESS}
 use Rattle.pal8_tape.proofs.further.further_faults.Given as goal

@@ -4,7 +4,7 @@ use Rattle.source_places.specs.Places.{place_in}
 use Rattle.pal8_asm.specs.Assembled.{result_of_text}
 use Rattle.pal8_asm.specs.Assembling.{Assembles}
 use Rattle.pal8_asm.specs.declared.faults.AsmFault.{AsmFault}
-use Rattle.pal8_join.specs.Joins.{bytes_in, counts_of, joined_bytes}
+use Rattle.pal8_tape.specs.Joins.{bytes_in, counts_of, joined_bytes}
 use Rattle.pal8_tape.specs.Marks.{fault_mark}
 use Rattle.pal8_tape.specs.Places.{place_by}
 use Rattle.pal8_tape.specs.declared.faults.Fault.{Fault}

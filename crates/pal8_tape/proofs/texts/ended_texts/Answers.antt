@@ -1,6 +1,6 @@
 use Rattle.std.proofs.Common.{map, arith}
 use Rattle.pal8_tape.specs.Further.{ended_texts}
-use Rattle.pal8_join.specs.Joins.{bytes_in}
+use Rattle.pal8_tape.specs.Joins.{bytes_in}
 use Rattle.pal8_tape.proofs.TextLemmas.{all_ended, ended_more}
 use Rattle.pal8_tape.proofs.texts.ended_texts.Goals as goal
 

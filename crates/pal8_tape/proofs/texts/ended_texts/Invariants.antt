@@ -1,5 +1,5 @@
 use Rattle.std.proofs.Common.{◌≡◌, ◌++◌, length, map}
-use Rattle.pal8_join.specs.Joins.{bytes_in}
+use Rattle.pal8_tape.specs.Joins.{bytes_in}
 use Rattle.pal8_tape.specs.Further.{ended_texts}
 use Rattle.pal8_tape.proofs.texts.ended_texts.Given as goal
 

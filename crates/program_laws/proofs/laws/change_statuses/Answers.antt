@@ -1,27 +1,21 @@
 use Rattle.std.proofs.Common.{refl}
 use Rattle.program_tasks.specs.declared.tasks.Task.TheVariants as task
 use Rattle.change_commands.specs.CopyingMany.{CopiesMany}
-use Rattle.put_commands.specs.PuttingMany.{PutsMany}
 use Rattle.change_commands.specs.Changing.{Renames, Squeezes}
 use Rattle.change_commands.specs.Copying.{Copies}
 use Rattle.change_commands.specs.Deleting.{Deletes}
 use Rattle.put_commands.specs.Putting.{Puts}
-use Rattle.asked_files.specs.Asking.{wanted_file}
+use Rattle.archive_files.specs.Asking.{target_of}
 use Rattle.keeper_laws.specs.Changes.{HasDeleted, HasRenamed, HasSqueezed}
 use Rattle.keeper_laws.specs.Copied.{HasCopied}
 use Rattle.keeper_laws.specs.CopiedAll.{HasCopiedAll}
 use Rattle.keeper_laws.specs.Stored.{HasStored}
-use Rattle.keeper_laws.specs.StoredAll.{HasStoredAll}
-use Rattle.program_laws.proofs.StatusLemmas.{copy-all-reports, copy-reports, delete-reports, put-all-reports, put-reports, rename-reports, squeeze-reports, task-means}
+use Rattle.program_laws.proofs.StatusLemmas.{copy-all-reports, copy-reports, delete-reports, put-reports, rename-reports, squeeze-reports, task-means}
 use Rattle.program_laws.proofs.laws.change_statuses.Goals as goal
 
 pub returns-clause-puts : goal.returns-clause-puts
 returns-clause-puts g c form is_typed before after =
     task-means form.image (HasStored form) (put-reports form) (Puts form) (c.ended_changes.ensures.puts form) form.image.wait form.image.file.bytes.items (task.Put form) is_typed _ refl (λ old work new p. p)
-
-pub returns-clause-puts_all : goal.returns-clause-puts_all
-returns-clause-puts_all g c form is_typed before after =
-    task-means form.image (HasStoredAll form) (put-all-reports form) (PutsMany form) (c.ended_many.ensures.puts form) form.image.wait form.image.file.bytes.items (task.PutMany form) is_typed _ refl (λ old work new p. p)
 
 pub returns-clause-copies : goal.returns-clause-copies
 returns-clause-copies g c form is_typed before after =
@@ -29,7 +23,7 @@ returns-clause-copies g c form is_typed before after =
 
 pub returns-clause-copies_all : goal.returns-clause-copies_all
 returns-clause-copies_all g c form is_typed before after =
-    task-means form.to (HasCopiedAll form) (copy-all-reports form) (CopiesMany form) (c.ended_many.ensures.copies form) form.to.wait form.to.file.bytes.items (task.CopyMany form) is_typed _ refl (λ old work new p. p)
+    task-means form.to (HasCopiedAll form) (copy-all-reports form) (CopiesMany form) (c.ended_changes.ensures.copies_all form) form.to.wait form.to.file.bytes.items (task.CopyMany form) is_typed _ refl (λ old work new p. p)
 
 pub returns-clause-squeezes : goal.returns-clause-squeezes
 returns-clause-squeezes g c form is_typed before after =
@@ -37,8 +31,8 @@ returns-clause-squeezes g c form is_typed before after =
 
 pub returns-clause-renames : goal.returns-clause-renames
 returns-clause-renames g c form file name is_typed before after =
-    task-means form (HasRenamed (wanted_file file) name.bytes.items form) (rename-reports (wanted_file file) name.bytes.items form) (Renames (wanted_file file) name.bytes.items form)
-    (c.ended_changes.ensures.renames (wanted_file file) name.bytes.items form) form.wait form.file.bytes.items (task.Rename form file name) is_typed _ refl (λ old work new p. p)
+    task-means form (HasRenamed (target_of file) name.bytes.items form) (rename-reports (target_of file) name.bytes.items form) (Renames (target_of file) name.bytes.items form)
+    (c.ended_changes.ensures.renames (target_of file) name.bytes.items form) form.wait form.file.bytes.items (task.Rename form file name) is_typed _ refl (λ old work new p. p)
 
 pub returns-clause-deletes : goal.returns-clause-deletes
 returns-clause-deletes g c form is_typed before after =

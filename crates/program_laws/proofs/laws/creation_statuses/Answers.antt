@@ -1,6 +1,6 @@
 use Rattle.std.proofs.Common.{refl}
 use Rattle.program_tasks.specs.declared.tasks.Task.TheVariants as task
-use Rattle.task_commands.specs.Asking.{file_of_form}
+use Rattle.program.specs.Asking.{file_of_form}
 use Rattle.change_commands.specs.Creating.{CreatesFile, IsBlankDisk, IsBlankImage, IsBlankTapeFile}
 use Rattle.change_commands.specs.declared.creating.TheConstants.{DISK_BLOCKS, TAPE_BLOCKS}
 use Rattle.keeper_laws.specs.Made.{HasCreated}

@@ -3,8 +3,8 @@ use Rattle.std.specs.Global.{Global}
 use Rattle.program_tasks.specs.declared.tasks.Task.TheVariants as task
 use Rattle.change_commands.specs.Patching.{PatchesWord}
 use Rattle.assemble_commands.specs.Assembling.{Assembles}
-use Rattle.task_commands.specs.Changes.{file_for, seconds_for}
-use Rattle.task_commands.specs.Tasks.{word_patch}
+use Rattle.program.specs.Changes.{file_for, seconds_for}
+use Rattle.program.specs.Tasks.{word_patch}
 use Rattle.change_commands.specs.Creating.{CreatesVolume}
 use Rattle.keeper_laws.specs.Changes.{HasEmptied, HasPatched}
 use Rattle.program_laws.specs.Assembled.{HasAssembled}

@@ -1,4 +1,4 @@
-use Rattle.std.proofs.Common.{rules, inl, inr, refl}
+use Rattle.std.proofs.Common.{rules, inr}
 use Rattle.put_commands.proofs.putting.judge_put.Goals as goal
 
 pub returns : goal.returns

@@ -1,6 +1,6 @@
 use Rattle.std.proofs.Common.{[], ◌∷◌}
 use Rattle.std.specs.Prelude.{decimal}
-use Rattle.script8.specs.Shown.{name_text}
+use Rattle.refusals.specs.Shown.{name_text}
 use Rattle.script8.proofs.LineTextLemmas.{three_pieces}
 use Rattle.script8.proofs.line_replies.put_file.Goals as goal
 

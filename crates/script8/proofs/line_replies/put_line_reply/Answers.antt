@@ -1,7 +1,7 @@
 use Rattle.std.proofs.Common.{◌++◌, ◌∷◌, [], ◌∙◌, ap, sym, append_assoc}
 use Rattle.std.specs.Prelude.{codes, decimal}
 use Rattle.word12.specs.Octal.{octal4, octal5}
-use Rattle.script8.specs.Shown.{name_text}
+use Rattle.refusals.specs.Shown.{name_text}
 use Rattle.script8.specs.Replies.{why_text, setting_text}
 use Rattle.script8.proofs.LineTextLemmas.{two_pieces, three_pieces, job_pieces, blank_pieces}
 use Rattle.script8.proofs.line_replies.put_line_reply.Goals as goal

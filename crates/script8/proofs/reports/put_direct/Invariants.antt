@@ -1,6 +1,6 @@
 use Rattle.std.proofs.Common.{◌≡◌, take, ◌++◌, ◌≤◌}
 use Rattle.std.specs.Prelude.{vec_capacity}
-use Rattle.script8.specs.Replies.{file_lines}
+use Rattle.refusals.specs.Listed.{file_lines}
 use Rattle.script8.proofs.reports.put_direct.Given as goal
 
 -- the lines of the files so far are appended

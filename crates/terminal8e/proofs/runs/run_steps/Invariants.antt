@@ -5,7 +5,7 @@ use Rattle.terminal8e.proofs.runs.run_steps.Given as goal
 -- the run has come so far, and goes on
 abbrev pub invariant-loop-made : goal.invariant-loop-made
 invariant-loop-made g l = record {
-  running : IsRunning l.fn.form l.fn.input l.fn.machine l.machine l.operator.keyboard l.operator.ahead l.operator.is_over l.operator.since
+  running : IsRunning g.M.TerminalMachine.acts l.fn.form l.fn.input l.fn.machine l.machine l.operator.keyboard l.operator.ahead l.operator.is_over l.operator.since
       (g.R.ByteReader.remaining l.fn.reader) (g.R.ByteReader.remaining l.reader) (g.O.Output.contents l.fn.writer) (g.O.Output.contents l.writer) l.paper l.made;
   input : l.operator.input ≡ l.fn.input;
   sooner : l.operator.since ≤ l.made;

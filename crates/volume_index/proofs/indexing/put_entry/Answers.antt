@@ -1,4 +1,4 @@
-use Rattle.index_lines.specs.Lines.{index_line}
+use Rattle.volume_index.specs.Lines.{index_line}
 use Rattle.volume_index.specs.Indexing.{block_bytes, entry_of}
 use Rattle.volume_index.specs.IndexSteps.{IsLineAt}
 use Rattle.volume_index.proofs.IndexLemmas.{entry-line, no-line, one-line, same-line}

@@ -26,7 +26,7 @@ use denote.Triple.Spec.{Meets, triple_of}
 use denote.Triple.Table.{entered}
 use denote.Triple.Walked.{says, Stays, stay_ref, walk_of, AllGo, Goes-ref, Walks, ends_at, walked, walk_Meets}
 use Rattle.hosts.specs.declared.record.Record.{Record}
-use Rattle.hosts.specs.Raw.{raw_of}
+use Rattle.hosts.specs.RawSteps.{raw_of}
 use Rattle.hosts.specs.contracts.record.Record as T
 use Rattle.hosts.specs.contracts.record.Record.note.Key.{name as #it}
 use Rattle.hosts.specs.contracts.record.Record.note as it

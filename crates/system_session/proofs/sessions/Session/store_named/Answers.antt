@@ -5,7 +5,7 @@ use Rattle.char_pack.specs.declared.faults.TextFault.{TextFault}
 use Rattle.char_pack.specs.declared.faults.TextFault.TheVariants.{BadText, Memory}
 use Rattle.volume_jobs.specs.Settled.{plain_jobs}
 use Rattle.os8_files.specs.Puts.{TellsRoom}
-use Rattle.script8.specs.Faults.{fault_of_file}
+use Rattle.refusals.specs.Faults.{fault_of_file}
 use Rattle.system_session.specs.Room.{IfFile}
 use Rattle.system_session.specs.Session.{SessionView}
 use Rattle.system_session.proofs.SessionLemmas.{store_refused, store_done, put_settled, storable_is, ok_err, unstored, no_text_stored, text_lacks}

@@ -1,2 +1,0 @@
-pub mod QuoteLemmas
-mod SameLemmas

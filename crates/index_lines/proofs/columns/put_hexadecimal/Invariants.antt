@@ -1,9 +1,0 @@
-use Rattle.std.proofs.Common.{◌≡◌, ◌++◌, length}
-use Rattle.index_lines.specs.Columns.{hexadecimal}
-use Rattle.index_lines.proofs.columns.put_hexadecimal.Given as goal
-
-abbrev pub invariant-loop-rest : goal.invariant-loop-rest
-invariant-loop-rest l = l.text.items ++ hexadecimal l.rest ≡ l.fn.text.items ++ hexadecimal l.fn.bytes
-
-abbrev pub decreases-loop-rest : goal.decreases-loop-rest
-decreases-loop-rest l = length l.rest

@@ -1,6 +1,0 @@
-use Rattle.std.proofs.Common.{◌≡◌, map, take}
-use Rattle.monitor8.proofs.words.texts_of.Given as goal
-
--- the texts so far are those of the words so far
-abbrev pub invariant-loop-word : goal.invariant-loop-word
-invariant-loop-word l = map (λ text. text.now) l.texts.items ≡ map (λ word. word.bytes.items) (take l.word-index l.words)

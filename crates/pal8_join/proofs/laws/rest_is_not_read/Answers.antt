@@ -1,5 +1,0 @@
-use Rattle.pal8_join.proofs.PauseLemmas.{rest_not_read}
-use Rattle.pal8_join.proofs.laws.rest_is_not_read.Goals as goal
-
-pub returns : goal.returns
-returns c = rest_not_read

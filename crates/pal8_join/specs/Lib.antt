@@ -1,4 +1,0 @@
-pub mod Joins
-pub mod Laws
-pub mod Passing
-pub mod Steps

@@ -1,4 +1,0 @@
-pub mod Closer
-pub mod Notes
-pub mod Steps
-pub mod Texts

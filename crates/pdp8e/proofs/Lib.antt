@@ -1,0 +1,7 @@
+pub mod StillLemmas
+pub mod StepLemmas
+pub mod TimeLemmas
+pub mod AloneLemmas
+pub mod BootLemmas
+pub mod UserLemmas
+pub mod WaitLemmas

@@ -1,0 +1,80 @@
+//! Instructions of the disk and of the processor.
+
+ghost use Rattle.std.specs.Prelude.{◌≡◌, true, false, None};
+ghost use Rattle.cpu8e.specs.State.{grants_interrupt};
+ghost use Rattle.cpu8e.specs.Step.{next_word};
+ghost use Rattle.pdp8e.specs.Step as spec;
+ghost use Rattle.pdp8e.specs.Step.{after_instruction, disk_row, passing, processor_row};
+
+use super::{Machine, join};
+use cpu8::Stepped;
+use word12::Word;
+
+/// CAF, which clears all devices.
+const CAF: u16 = 0o6007;
+
+/// An IOT of the disk without its last digit.
+const DISK: u16 = 0o674;
+
+impl Machine {
+    /// The next instruction, which has this word. An instruction passes for what is under way on the disk.
+    pub(super) fn execute(&mut self, word: Word) -> Stepped
+        requires running { self.old.processor.base.running ≡ true }
+        requires no_interrupt { grants_interrupt self.old.processor ≡ false }
+        requires next { word ≡ next_word self.old.processor }
+        ensures state { self.new ≡ (after_instruction (passing self.old) word).0 }
+        ensures answer { result ≡ (after_instruction (passing self.old) word).1 }
+    {
+        if is_disk_word(word) && !self.processor.user_flag() {
+            self.ask_disk(word);
+            return Stepped::Ran { printed: None };
+        }
+        self.ask_processor(word)
+    }
+
+    /// The disk does an IOT.
+    fn ask_disk(&mut self, word: Word)
+        ensures { self.new ≡ disk_row (passing self.old) word }
+    {
+        self.disk.pass(1);
+        let pulses = (word.get() % 8) as u8;
+        let answer = self.disk.do_instruction(pulses, self.processor.ac());
+        self.processor.answer_device(answer.ac, answer.skips);
+        self.is_still = join(&mut self.processor, &self.disk);
+    }
+
+    /// The processor does an instruction. CAF clears the disk too.
+    #[tactic(auto, unfolding(cpu8e::specs::Step::step))]
+    fn ask_processor(&mut self, word: Word) -> Stepped
+        requires running { self.old.processor.base.running ≡ true }
+        requires no_interrupt { grants_interrupt self.old.processor ≡ false }
+        requires next { word ≡ next_word self.old.processor }
+        ensures state { self.new ≡ (processor_row (passing self.old) word).0 }
+        ensures answer { result ≡ (processor_row (passing self.old) word).1 }
+    {
+        self.disk.pass(1);
+        let clears = word.get() == CAF && !self.processor.user_flag();
+        let did = self.processor.step();
+        if clears {
+            self.disk.clear();
+        }
+        self.is_still = join(&mut self.processor, &self.disk);
+        did
+    }
+}
+
+/// Whether a word is an IOT of the disk.
+#[inline(always)]
+fn is_disk_word(word: Word) -> bool
+    ensures { result ≡ spec.is_disk_word word }
+{
+    word.get() / 8 == DISK
+}
+
+/// Whether the disk does an instruction of this word, or is cleared by it.
+#[inline(always)]
+pub(super) fn is_for_disk(word: Word) -> bool
+    ensures { result ≡ spec.is_for_disk word }
+{
+    is_disk_word(word) || word.get() == CAF
+}

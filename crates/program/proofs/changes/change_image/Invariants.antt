@@ -1,0 +1,16 @@
+use Rattle.std.proofs.Common.{◌≡◌, ◌≤◌, ◌-◌, ◌*◌, List, length}
+use Rattle.hosts.specs.Event.{Event}
+use Rattle.program.specs.Changes.{AreBusy, DoesChange, seconds_of}
+use Rattle.program.specs.declared.changes.TheConstants.{TRIES}
+use Rattle.program.proofs.changes.change_image.Given as goal
+
+-- each try so far found that another program holds the image
+abbrev pub invariant-loop-tries : goal.invariant-loop-tries
+invariant-loop-tries g l = record {
+  most : l.most ≡ TRIES * seconds_of l.fn.change;
+  few : l.tries ≤ l.most;
+  busy : (tries : List (List Event)) × AreBusy (DoesChange l.fn.change) tries (g.H.Host.history l.fn.host) (g.H.Host.history l.host) × (length tries ≡ l.tries);
+}
+
+abbrev pub decreases-loop-tries : goal.decreases-loop-tries
+decreases-loop-tries g l = l.most - l.tries

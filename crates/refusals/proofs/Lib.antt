@@ -1,0 +1,2 @@
+pub mod LineTextLemmas
+pub mod NameLemmas

@@ -1,4 +1,0 @@
-pub mod RescueLemmas
-pub mod LawLemmas
-pub mod RowLemmas
-pub mod FitLemmas

@@ -1,4 +1,0 @@
-pub mod Rows
-pub mod Rescued
-pub mod Laws
-pub mod Steps

@@ -1,4 +1,0 @@
-pub mod Starts
-pub mod Runs
-pub mod StartSteps
-pub mod RunSteps

@@ -1,5 +1,0 @@
-pub mod Changed
-pub mod Asking
-pub mod Changes
-pub mod Tasks
-pub mod Words

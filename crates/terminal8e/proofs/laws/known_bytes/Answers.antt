@@ -1,5 +1,0 @@
-use Rattle.terminal8e.proofs.EndLemmas.{whole-run}
-use Rattle.terminal8e.proofs.laws.known_bytes.Goals as goal
-
-pub returns : goal.returns
-returns c = λ form n old new bytes left writer written ended h. whole-run form n old new bytes left writer written ended h

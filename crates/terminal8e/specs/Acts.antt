@@ -1,0 +1,14 @@
+-- What a terminal asks of a machine, whatever its kind.
+use Rattle.std.specs.Prelude.{ℕ, Bool}
+use Rattle.cpu8.specs.declared.outcomes.Stepped.{Stepped}
+
+pub record Acts (S : Type 0) : Type 0 where
+  pub is_running : S → Bool
+  -- the program asks for a key, so many steps after the last look
+  pub asks_for_key : ℕ → S → Bool
+  -- where it asks for one it does nothing but wait, for ever if none comes
+  pub waits_for_key : S → Bool
+  -- a key of this character is struck
+  pub key_struck : S → ℕ → S
+  -- a step, before which the printer ends its character where it is busy
+  pub printing_step : S → S × Stepped

@@ -1,0 +1,33 @@
+//! What a machine of any kind does at a terminal.
+
+ghost use Rattle.std.specs.Prelude.{◌≡◌};
+ghost use Rattle.terminal8e.specs.Acts.{Acts};
+
+use cpu8::Stepped;
+
+/// A machine that may stand at a terminal.
+pub trait TerminalMachine {
+    /// What its calls come to.
+    ghost acts: { Acts Self };
+
+    /// Whether it runs.
+    fn is_running(&self) -> bool
+        ensures { result ≡ acts.is_running self.now };
+
+    /// Whether its program asks for a key, so many steps after the last look.
+    fn asks_for_key(&self, since: u64) -> bool
+        ensures { result ≡ acts.asks_for_key since self.now };
+
+    /// Whether its program, where it asks for a key, does nothing but wait for it, for ever if none comes.
+    fn waits_for_key(&self) -> bool
+        ensures { result ≡ acts.waits_for_key self.now };
+
+    /// A key of this eight-bit character is struck.
+    fn strike_key(&mut self, character: u8)
+        ensures { self.new ≡ acts.key_struck self.old character };
+
+    /// A step, before which the printer ends its character where it is busy.
+    fn make_step(&mut self) -> Stepped
+        ensures state { self.new ≡ (acts.printing_step self.old).0 }
+        ensures answer { result ≡ (acts.printing_step self.old).1 };
+}
