@@ -8,8 +8,8 @@ use Rattle.bin_tape.specs.Tape.{IsTape}
 use Rattle.bin_tape.specs.Fault.{IsFault}
 use Rattle.bin_tape.specs.declared.faults.TapeFault.{TapeFault}
 use Rattle.char_pack.specs.Packing.{frames}
-use Rattle.char_pack.specs.declared.forms.GetForm.{GetForm}
-use Rattle.char_pack.specs.declared.forms.GetForm.TheVariants.{Frames, Text, Tape}
+use Rattle.archive_files.specs.declared.forms.GetForm.{GetForm}
+use Rattle.archive_files.specs.declared.forms.GetForm.TheVariants.{Frames, Text, Tape}
 use Rattle.os8_dir.specs.Entries.{DirectoryState}
 use Rattle.os8_dir.specs.Reading.{directory_of}
 use Rattle.os8_dir.specs.Files.{FileData, files_of}

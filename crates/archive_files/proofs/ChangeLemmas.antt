@@ -5,7 +5,7 @@ use Rattle.std.specs.FinMap.{get, insert, remove, get-remove, same_map, nat_cmp-
 use Rattle.std.proofs.lemmas.Cmp.{nat_cmp_total}
 use Rattle.std.proofs.lemmas.Bool.Decides.{eqb_tells}
 use Rattle.volume_image.specs.Image.{IsImageOf, WrittenIsReadBack}
-use Rattle.char_pack.specs.declared.forms.GetForm.{GetForm}
+use Rattle.archive_files.specs.declared.forms.GetForm.{GetForm}
 use Rattle.name_spelling.specs.Reading.{typed_name}
 use Rattle.os8_dir.specs.declared.entries.DirEntry.{DirEntry}
 use Rattle.os8_dir.specs.declared.faults.DirFault.{DirFault}

@@ -3,7 +3,7 @@ use Rattle.std.proofs.Common.{◌≡◌, ◌∙◌, ℕ, zero, suc, true, false,
 use Rattle.std.specs.Global.{Vec}
 use Rattle.volume_image.specs.Image.{WrittenIsReadBack}
 use Rattle.char_pack.specs.Texts.{text, is_storable}
-use Rattle.char_pack.specs.declared.forms.GetForm.TheVariants.{Text}
+use Rattle.archive_files.specs.declared.forms.GetForm.TheVariants.{Text}
 use Rattle.archive_files.specs.declared.putting.NewImage.{NewImage}
 use Rattle.archive_files.specs.Asking.{Target, OfName}
 use Rattle.archive_files.specs.Getting.{IsFile, IsTapeOf, Gets, line_feeds, trailer}

@@ -7,7 +7,7 @@ use Rattle.refusals.specs.declared.faults.SessionFault.{SessionFault}
 use Rattle.refusals.specs.declared.faults.SessionFault.TheVariants.{BadLine, NoJob, TooManyJobs, File, Asm, Tape, BadText, Reader, Writer, Memory, TooManyBreaks}
 use Rattle.os8_dir.specs.Files.{FileData, files_of}
 use Rattle.volume_image.specs.Image.{IsImage}
-use Rattle.char_pack.specs.declared.forms.GetForm.{GetForm}
+use Rattle.archive_files.specs.declared.forms.GetForm.{GetForm}
 use Rattle.os8_files.specs.Mounted.{MountState}
 use Rattle.archive_files.specs.Putting.{IsMounted}
 use Rattle.archive_files.specs.Asking.{Target, asked_name}

@@ -3,13 +3,13 @@ use Rattle.std.specs.Prelude.{◌≡◌, ◌≢◌, ◌⊎◌, ℕ, Option, None
 use Rattle.std.specs.Global.{Vec}
 use Rattle.std.specs.FinMap.{get}
 use Rattle.volume_image.specs.Image.{IsImageOf}
-use Rattle.char_pack.specs.declared.forms.GetForm.{GetForm}
+use Rattle.archive_files.specs.declared.forms.GetForm.{GetForm}
 use Rattle.name_spelling.specs.Reading.{typed_name}
 use Rattle.os8_dir.specs.Reading.{directory_of}
 use Rattle.os8_dir.specs.Files.{FileData, files_of}
 use Rattle.os8_dir.specs.Names.{with_end_zeros}
 use Rattle.os8_files.specs.Calls.{KeepsBlocks, info_of}
-use Rattle.char_pack.specs.declared.forms.PutForm.{PutForm}
+use Rattle.archive_files.specs.declared.forms.PutForm.{PutForm}
 use Rattle.archive_files.specs.declared.putting.NewImage.{NewImage}
 use Rattle.archive_files.specs.Putting.{PutsFile, put_words}
 use Rattle.archive_files.specs.Copying.{CopiesFile, target}

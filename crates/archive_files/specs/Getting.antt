@@ -14,8 +14,8 @@ use Rattle.refusals.specs.declared.faults.SessionFault.TheVariants.{File, Memory
 use Rattle.refusals.specs.declared.faults.SessionFault.TheVariants as session
 use Rattle.archive_files.specs.declared.faults.ArchiveFault.{ArchiveFault}
 use Rattle.archive_files.specs.declared.faults.ArchiveFault.TheVariants.{Image, Directory, Refused}
-use Rattle.char_pack.specs.declared.forms.GetForm.{GetForm}
-use Rattle.char_pack.specs.declared.forms.GetForm.TheVariants.{Frames, Text, Tape}
+use Rattle.archive_files.specs.declared.forms.GetForm.{GetForm}
+use Rattle.archive_files.specs.declared.forms.GetForm.TheVariants.{Frames, Text, Tape}
 use Rattle.archive_files.specs.Asking.{Target, asked_name, IsBadName, IsMissing}
 use Rattle.archive_files.specs.Opening.{IsOpened, IsUnopened}
 

@@ -6,9 +6,9 @@ use Rattle.bin_tape.specs.Fault.{IsFault}
 use Rattle.word12.specs.declared.sizes.TheConstants.{BLOCK}
 use Rattle.volume_image.specs.Image.{IsImageOf}
 use Rattle.char_pack.specs.Packing.{frames}
-use Rattle.char_pack.specs.declared.forms.GetForm.{GetForm}
-use Rattle.char_pack.specs.declared.forms.GetForm.TheVariants.{Tape}
-use Rattle.char_pack.specs.declared.forms.PutForm.{PutForm}
+use Rattle.archive_files.specs.declared.forms.GetForm.{GetForm}
+use Rattle.archive_files.specs.declared.forms.GetForm.TheVariants.{Tape}
+use Rattle.archive_files.specs.declared.forms.PutForm.{PutForm}
 use Rattle.os8_dir.specs.Files.{FileData, files_of}
 use Rattle.os8_files.specs.Mounted.{MountState}
 use Rattle.os8_files.specs.Puts.{HasPutWith, PutsFileWith, blocks_filled}

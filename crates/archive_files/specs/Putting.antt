@@ -15,8 +15,8 @@ use Rattle.refusals.specs.declared.faults.SessionFault.{SessionFault}
 use Rattle.refusals.specs.declared.faults.SessionFault.TheVariants.{File, BadText}
 use Rattle.archive_files.specs.declared.faults.ArchiveFault.{ArchiveFault}
 use Rattle.archive_files.specs.declared.faults.ArchiveFault.TheVariants.{Image, Directory, Refused}
-use Rattle.char_pack.specs.declared.forms.PutForm.{PutForm}
-use Rattle.char_pack.specs.declared.forms.PutForm.TheVariants.{Frames, Text}
+use Rattle.archive_files.specs.declared.forms.PutForm.{PutForm}
+use Rattle.archive_files.specs.declared.forms.PutForm.TheVariants.{Frames, Text}
 use Rattle.archive_files.specs.declared.putting.NewImage.{NewImage}
 use Rattle.archive_files.specs.Opening.{IsOpened, IsUnopened}
 use Rattle.archive_files.specs.HostTexts.{file_text, text_words}

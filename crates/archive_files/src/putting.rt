@@ -3,7 +3,7 @@ ghost use Rattle.os8_dir.specs.Entries.{IsNamed};
 ghost use Rattle.os8_files.specs.Calls.{IsReady};
 ghost use Rattle.archive_files.specs.Putting.{PutsFile};
 ghost use Rattle.archive_files.specs.Parts.{AreBlocks, MakesWords, PutsInformed, PutsWords};
-ghost use Rattle.char_pack.specs.declared.forms.PutForm.TheVariants as form;
+ghost use Rattle.archive_files.specs.declared.forms.PutForm.TheVariants as form;
 
 use crate::opening::{image_of, mount_image};
 use crate::texts::text_frames;

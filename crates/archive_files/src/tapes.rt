@@ -2,7 +2,7 @@ ghost use Rattle.std.specs.Prelude.{◌≡◌, ◌≤◌, ℕ, List, length};
 ghost use Rattle.archive_files.specs.Getting.{trailer};
 ghost use Rattle.archive_files.specs.Parts.{GivesFile};
 ghost use Rattle.archive_files.specs.Steps.{FindsTape, IsReading, TakesFrame};
-ghost use Rattle.char_pack.specs.declared.forms.GetForm.TheVariants as form;
+ghost use Rattle.archive_files.specs.declared.forms.GetForm.TheVariants as form;
 
 use crate::frames::frames_of;
 use bin_tape::laws::no_fault;

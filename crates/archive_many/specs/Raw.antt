@@ -4,8 +4,8 @@ use Rattle.std.specs.Global.{Vec}
 use Rattle.bin_tape.specs.Fault.{IsFault}
 use Rattle.volume_image.specs.Image.{IsImageOf}
 use Rattle.char_pack.specs.Packing.{frames}
-use Rattle.char_pack.specs.declared.forms.GetForm.{GetForm}
-use Rattle.char_pack.specs.declared.forms.GetForm.TheVariants.{Tape}
+use Rattle.archive_files.specs.declared.forms.GetForm.{GetForm}
+use Rattle.archive_files.specs.declared.forms.GetForm.TheVariants.{Tape}
 use Rattle.os8_dir.specs.Files.{run}
 use Rattle.refusals.specs.declared.faults.SessionFault.{SessionFault}
 use Rattle.refusals.specs.declared.faults.SessionFault.TheVariants as session

@@ -1,10 +1,10 @@
 -- Which of several files are texts.
 use Rattle.std.specs.Prelude.{◌≡◌, ◌⊎◌, ◌&&◌, ◌||◌, ℕ, Bool, false, true, not, nat_eq, length, if◌then◌else◌, Option, None, Some, Result, Ok, Err, List, ◌∷◌, map, slice_get}
 use Rattle.hosts.specs.Event.{Event, tell_call}
-use Rattle.char_pack.specs.declared.forms.GetForm.{GetForm}
-use Rattle.char_pack.specs.declared.forms.GetForm.TheVariants as get_as
-use Rattle.char_pack.specs.declared.forms.PutForm.{PutForm}
-use Rattle.char_pack.specs.declared.forms.PutForm.TheVariants as put_as
+use Rattle.archive_files.specs.declared.forms.GetForm.{GetForm}
+use Rattle.archive_files.specs.declared.forms.GetForm.TheVariants as get_as
+use Rattle.archive_files.specs.declared.forms.PutForm.{PutForm}
+use Rattle.archive_files.specs.declared.forms.PutForm.TheVariants as put_as
 use Rattle.refusals.specs.declared.faults.SessionFault.TheVariants.{Memory}
 use Rattle.archive_many.specs.Extensions.{is_text, AreLists, IsFirstBad}
 use Rattle.archive_many.specs.Naming.{is_named}

@@ -6,7 +6,7 @@ use Rattle.std.specs.Str.{bytes_eq}
 use Rattle.hosts.specs.Event.{Event, same_call}
 use Rattle.hosts.specs.Place.{about}
 use Rattle.hosts.specs.Streams.{read}
-use Rattle.char_pack.specs.declared.forms.PutForm.TheVariants.{Frames}
+use Rattle.archive_files.specs.declared.forms.PutForm.TheVariants.{Frames}
 use Rattle.archive_files.specs.Putting.{PutsFile}
 use Rattle.archive_files.specs.declared.faults.ArchiveFault.{ArchiveFault}
 use Rattle.archive_files.specs.declared.putting.NewImage.{NewImage}

@@ -2,7 +2,7 @@
 use Rattle.std.specs.Prelude.{◌≡◌, ℕ, Bool, true, false, Option, None, Some, String, Result, List, length}
 use Rattle.std.specs.Global.{Vec, Global}
 use Rattle.hosts.specs.Event.{Event}
-use Rattle.char_pack.specs.declared.forms.PutForm.TheVariants.{Frames}
+use Rattle.archive_files.specs.declared.forms.PutForm.TheVariants.{Frames}
 use Rattle.archive_files.specs.Putting.{PutsFile}
 use Rattle.outcome.specs.declared.contents.Content.{Content}
 use Rattle.outcome.specs.declared.contents.Content.TheVariants.{Tape, Listing}

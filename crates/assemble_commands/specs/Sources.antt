@@ -4,7 +4,7 @@ use Rattle.std.specs.Borrow.{Bor}
 use Rattle.std.specs.Global.{Vec}
 use Rattle.std.specs.Str.{bytes_eq}
 use Rattle.hosts.specs.Event.{Event, tell_call}
-use Rattle.char_pack.specs.declared.forms.GetForm.TheVariants.{Text}
+use Rattle.archive_files.specs.declared.forms.GetForm.TheVariants.{Text}
 use Rattle.archive_files.specs.Asking.{Target, OfName, target_of}
 use Rattle.archive_files.specs.Getting.{Gets}
 use Rattle.archive_files.specs.declared.asking.Asked.{Asked}

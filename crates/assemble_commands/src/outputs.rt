@@ -1,6 +1,6 @@
 //! Where a listing and a tape are written.
 ghost use Rattle.std.specs.Prelude.{length, None};
-ghost use Rattle.char_pack.specs.declared.forms.PutForm.TheVariants.{Frames};
+ghost use Rattle.archive_files.specs.declared.forms.PutForm.TheVariants.{Frames};
 ghost use Rattle.archive_files.specs.Putting.{PutsFile};
 ghost use Rattle.image_files.specs.Answers.{Answers};
 ghost use Rattle.assemble_commands.specs.Outputs.{PutsTape, WritesListing, WritesTape, WritesTo};

@@ -4,7 +4,6 @@
 #![tactic(auto)]
 
 mod faults;
-mod forms;
 pub mod laws;
 mod packing;
 mod reading;
@@ -12,7 +11,6 @@ mod storing;
 mod texts;
 
 pub use faults::{PackFault, TextFault};
-pub use forms::{GetForm, PutForm};
 pub use packing::{BLOCK_FRAMES, pack, pack_blocks};
 pub use reading::{Frames, frame_at, frame_count};
 pub use storing::{character_count, is_storable, store, stored_block_count};

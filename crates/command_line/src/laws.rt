@@ -6,7 +6,7 @@ ghost use Rattle.program_tasks.specs.declared.archives.LineForm.TheVariants.{Col
 ghost use Rattle.program_tasks.specs.declared.tasks.Cpu.TheVariants.{EightI, EightE};
 ghost use Rattle.program_tasks.specs.declared.tasks.RimForm.TheVariants.{Lines, Bin};
 ghost use Rattle.program_tasks.specs.declared.tasks.Saving.TheVariants.{AtEnd, Never, Always};
-ghost use Rattle.char_pack.specs.declared.forms.GetForm.TheVariants as get_as;
+ghost use Rattle.archive_files.specs.declared.forms.GetForm.TheVariants as get_as;
 ghost use Rattle.disk_layouts.specs.declared.layouts.Layout.TheVariants.{First, Second, Dectape};
 ghost use Rattle.word12.specs.declared.sizes.TheConstants.{MOST_BLOCKS};
 ghost use Rattle.command_table.specs.Found.{capitals, is_set, layout_of, name_in, names_in, wait_of};

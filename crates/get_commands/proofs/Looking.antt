@@ -2,7 +2,7 @@
 use Rattle.std.proofs.Common.{ℕ, Result, Ok, Err, List, inl, inr, length}
 use Rattle.std.specs.Global.{Vec}
 use Rattle.hosts.specs.Event.{Event}
-use Rattle.char_pack.specs.declared.forms.GetForm.TheVariants.{Frames}
+use Rattle.archive_files.specs.declared.forms.GetForm.TheVariants.{Frames}
 use Rattle.archive_files.specs.declared.faults.ArchiveFault.{ArchiveFault}
 use Rattle.archive_files.specs.Getting.{Gets}
 use Rattle.archive_many.specs.declared.faults.BlocksFault.{BlocksFault}

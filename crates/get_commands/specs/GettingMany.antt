@@ -12,7 +12,7 @@ use Rattle.hosts.specs.Times.{file_time}
 use Rattle.hosts.specs.declared.faults.FaultClass.{FaultClass}
 use Rattle.hosts.specs.declared.faults.FaultClass.TheVariants as class
 use Rattle.hosts.specs.declared.faults.HostFault.{HostFault}
-use Rattle.char_pack.specs.declared.forms.GetForm.{GetForm}
+use Rattle.archive_files.specs.declared.forms.GetForm.{GetForm}
 use Rattle.os8_dates.specs.declared.days.TheConstants.{NO_DATE}
 use Rattle.os8_dates.specs.Days.{time_of_word}
 use Rattle.os8_dir.specs.declared.file_faults.FileFault.{FileFault}

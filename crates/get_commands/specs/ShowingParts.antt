@@ -6,7 +6,7 @@ use Rattle.char_pack.specs.Packing.{words_of_bytes}
 use Rattle.core_image.specs.Converted.{IsBinOf}
 use Rattle.core_image.specs.declared.faults.CoreFault.{CoreFault}
 use Rattle.archive_files.specs.Getting.{Gets}
-use Rattle.char_pack.specs.declared.forms.GetForm.TheVariants.{Frames}
+use Rattle.archive_files.specs.declared.forms.GetForm.TheVariants.{Frames}
 use Rattle.archive_many.specs.Raw.{GetsBlocks}
 use Rattle.archive_many.specs.declared.faults.BlocksFault.{BlocksFault}
 use Rattle.program_reports.specs.Cores.{IsCoreFault}

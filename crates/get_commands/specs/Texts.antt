@@ -2,7 +2,7 @@
 use Rattle.std.specs.Prelude.{◌≡◌, ℕ, ◌&&◌, not, nat_lt, Bool, true, false, codes, decimal, Some, String, Result, Ok, Err, List, [], ◌∷◌, ◌++◌, length}
 use Rattle.std.specs.Global.{Global, Vec}
 use Rattle.hosts.specs.Event.{Event}
-use Rattle.char_pack.specs.declared.forms.GetForm.TheVariants as get_as
+use Rattle.archive_files.specs.declared.forms.GetForm.TheVariants as get_as
 use Rattle.os8_dir.specs.declared.file_faults.FileFault.TheVariants.{NotFound}
 use Rattle.refusals.specs.declared.faults.SessionFault.{SessionFault}
 use Rattle.refusals.specs.declared.faults.SessionFault.TheVariants.{Memory}

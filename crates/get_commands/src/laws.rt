@@ -1,7 +1,7 @@
 //! What `get` leaves as it was, as laws.
 ghost use Rattle.std.specs.Prelude.{◌≡◌, false};
 ghost use Rattle.archive_files.specs.Getting.{Gets};
-ghost use Rattle.char_pack.specs.declared.forms.GetForm.{GetForm as How};
+ghost use Rattle.archive_files.specs.declared.forms.GetForm.{GetForm as How};
 ghost use Rattle.program_tasks.specs.declared.forms.BlocksForm.{BlocksForm as Blocks};
 ghost use Rattle.archive_files.specs.declared.asking.Asked.{Asked as File};
 ghost use Rattle.program_tasks.specs.declared.forms.GetManyForm.{GetManyForm as GetMany};

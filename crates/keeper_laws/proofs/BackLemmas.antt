@@ -2,7 +2,7 @@
 use Rattle.std.proofs.Common.{◌≡◌, ◌∙◌, ℕ, Result, Ok, Err, List, length, ap, subst, inl, inr}
 use Rattle.std.specs.Global.{Vec}
 use Rattle.hosts.specs.Event.{Event}
-use Rattle.char_pack.specs.declared.forms.GetForm.{GetForm}
+use Rattle.archive_files.specs.declared.forms.GetForm.{GetForm}
 use Rattle.archive_files.specs.Asking.{OfName}
 use Rattle.archive_files.specs.Getting.{Gets}
 use Rattle.archive_files.specs.Laws.{GivesOrLacks}

@@ -3,9 +3,9 @@ use Rattle.std.proofs.Common.{◌≡◌, ◌∙◌, ◌<◌, ◌++◌, ℕ, Bool
 use Rattle.std.specs.FinMap.{get}
 use Rattle.std.specs.Global.{Vec}
 use Rattle.char_pack.specs.Packing.{IsBlockPacking, frames, packed_blocks}
-use Rattle.char_pack.specs.declared.forms.GetForm.TheVariants as get_as
-use Rattle.char_pack.specs.declared.forms.PutForm.{PutForm}
-use Rattle.char_pack.specs.declared.forms.PutForm.TheVariants as put_as
+use Rattle.archive_files.specs.declared.forms.GetForm.TheVariants as get_as
+use Rattle.archive_files.specs.declared.forms.PutForm.{PutForm}
+use Rattle.archive_files.specs.declared.forms.PutForm.TheVariants as put_as
 use Rattle.volume_image.specs.Image.{IsImageOf, WrittenIsReadBack}
 use Rattle.os8_dir.specs.Files.{FileData, files_of}
 use Rattle.os8_dir.specs.Names.{with_end_zeros}

@@ -2,9 +2,9 @@
 use Rattle.std.specs.Prelude.{◌≡◌, ◌⊎◌, ◌<◌, ℕ, true, Some, Result, Ok, Err, List, [], ◌∷◌, ◌++◌, All, length}
 use Rattle.std.specs.Global.{Vec}
 use Rattle.hosts.specs.Event.{Event, print_call}
-use Rattle.char_pack.specs.declared.forms.GetForm.{GetForm}
-use Rattle.char_pack.specs.declared.forms.GetForm.TheVariants as get_as
-use Rattle.char_pack.specs.declared.forms.PutForm.TheVariants as put_as
+use Rattle.archive_files.specs.declared.forms.GetForm.{GetForm}
+use Rattle.archive_files.specs.declared.forms.GetForm.TheVariants as get_as
+use Rattle.archive_files.specs.declared.forms.PutForm.TheVariants as put_as
 use Rattle.name_spelling.specs.Reading.{typed_name}
 use Rattle.archive_files.specs.Asking.{OfName}
 use Rattle.archive_files.specs.Getting.{Gets, IsTapeOf, line_feeds}

@@ -3,9 +3,9 @@ ghost use Rattle.std.specs.Prelude.{◌≡◌, ◌≢◌, ◌⊎◌, ◌<◌, �
 ghost use Rattle.std.specs.Global.{Vec};
 ghost use Rattle.hosts.specs.Event.{Event};
 ghost use Rattle.hosts.specs.Holding.{IsLawful, turns};
-ghost use Rattle.char_pack.specs.declared.forms.GetForm.{GetForm as How};
-ghost use Rattle.char_pack.specs.declared.forms.GetForm.TheVariants as get_as;
-ghost use Rattle.char_pack.specs.declared.forms.PutForm.TheVariants as put_as;
+ghost use Rattle.archive_files.specs.declared.forms.GetForm.{GetForm as How};
+ghost use Rattle.archive_files.specs.declared.forms.GetForm.TheVariants as get_as;
+ghost use Rattle.archive_files.specs.declared.forms.PutForm.TheVariants as put_as;
 ghost use Rattle.name_spelling.specs.Patterns.{is_like_one};
 ghost use Rattle.name_spelling.specs.Reading.{typed_name};
 ghost use Rattle.archive_files.specs.declared.faults.ArchiveFault.{ArchiveFault as Fault};

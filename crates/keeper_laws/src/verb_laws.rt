@@ -5,7 +5,7 @@ ghost use Rattle.hosts.specs.Place.{about};
 ghost use Rattle.archive_files.specs.Asking.{Target, target_of};
 ghost use Rattle.archive_files.specs.Getting.{Gets};
 ghost use Rattle.archive_many.specs.declared.putting.NewFile.{NewFile};
-ghost use Rattle.char_pack.specs.declared.forms.GetForm.{GetForm as How};
+ghost use Rattle.archive_files.specs.declared.forms.GetForm.{GetForm as How};
 ghost use Rattle.refusals.specs.declared.faults.SessionFault.{SessionFault as Refused};
 ghost use Rattle.program_reports.specs.declared.programs.ProgramLine.{ProgramLine as Printed};
 ghost use Rattle.outcome.specs.declared.endings.Ending.{Ending};

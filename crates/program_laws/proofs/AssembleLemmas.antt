@@ -4,8 +4,8 @@ use Rattle.std.specs.Borrow.{Bor}
 use Rattle.std.specs.Global.{Vec, Global}
 use Rattle.hosts.specs.Event.{Event, look_call, tell_call}
 use Rattle.hosts.specs.Streams.{output, read}
-use Rattle.char_pack.specs.declared.forms.GetForm.TheVariants.{Text}
-use Rattle.char_pack.specs.declared.forms.PutForm.TheVariants.{Frames}
+use Rattle.archive_files.specs.declared.forms.GetForm.TheVariants.{Text}
+use Rattle.archive_files.specs.declared.forms.PutForm.TheVariants.{Frames}
 use Rattle.host_sources.specs.declared.faults.SourceFault as pal3_fault
 use Rattle.host_sources.specs.declared.faults.SourceFault.TheVariants as pal3_is
 use Rattle.pal8_places.specs.declared.options.Options.{Options}

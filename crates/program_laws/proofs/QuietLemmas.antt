@@ -23,7 +23,7 @@ use Rattle.program_tasks.specs.declared.tasks.Task.{Task}
 use Rattle.program_tasks.specs.declared.tasks.Task.TheVariants as task
 use Rattle.program_tasks.specs.declared.tasks.TeletypeForm.{TeletypeForm}
 use Rattle.program_tasks.specs.declared.tasks.TraceForm.{TraceForm}
-use Rattle.char_pack.specs.declared.forms.GetForm.{GetForm}
+use Rattle.archive_files.specs.declared.forms.GetForm.{GetForm}
 use Rattle.archive_files.specs.Getting.{Gets}
 use Rattle.volume_index.specs.declared.styles.IndexStyle.{IndexStyle}
 use Rattle.outcome.specs.Streams.{gives_data}

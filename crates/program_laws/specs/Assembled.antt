@@ -4,8 +4,8 @@ use Rattle.std.specs.Borrow.{Bor}
 use Rattle.std.specs.Global.{Vec}
 use Rattle.hosts.specs.Event.{Event, look_call}
 use Rattle.hosts.specs.Streams.{output, read}
-use Rattle.char_pack.specs.declared.forms.GetForm.TheVariants.{Text}
-use Rattle.char_pack.specs.declared.forms.PutForm.TheVariants.{Frames}
+use Rattle.archive_files.specs.declared.forms.GetForm.TheVariants.{Text}
+use Rattle.archive_files.specs.declared.forms.PutForm.TheVariants.{Frames}
 use Rattle.bin_tape.specs.Pairs.{ArePairs, IsTapeOf}
 use Rattle.pal_asm.specs.Faults.{fault_of}
 use Rattle.pal_asm.specs.Words.{pairs_of}

@@ -2,7 +2,7 @@
 ghost use Rattle.std.specs.Prelude.{◌≡◌, ◌<◌, ℕ, Bool, false, List, None, Result, Some, String, All};
 ghost use Rattle.std.specs.Global.{Global as Heap};
 ghost use Rattle.byte_reader.specs.Readings.{reading};
-ghost use Rattle.char_pack.specs.declared.forms.GetForm.TheVariants as get_as;
+ghost use Rattle.archive_files.specs.declared.forms.GetForm.TheVariants as get_as;
 ghost use Rattle.archive_files.specs.Laws.{whole_blocks};
 ghost use Rattle.hosts.specs.Event.{Event};
 ghost use Rattle.program_tasks.specs.declared.forms.CopyForm.{CopyForm as Copy};

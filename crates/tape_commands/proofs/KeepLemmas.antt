@@ -4,7 +4,7 @@ use Rattle.std.specs.Global.{Vec, Global}
 use Rattle.std.specs.Prelude.{String}
 use Rattle.hosts.specs.Event.{Event}
 use Rattle.hosts.specs.Place.{about}
-use Rattle.char_pack.specs.declared.forms.GetForm.TheVariants.{Frames}
+use Rattle.archive_files.specs.declared.forms.GetForm.TheVariants.{Frames}
 use Rattle.outcome.specs.Hints.{kind_note}
 use Rattle.outcome.specs.declared.endings.Ending.{Ending}
 use Rattle.outcome.specs.declared.endings.Ending.TheVariants.{Fault}

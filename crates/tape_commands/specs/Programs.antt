@@ -4,7 +4,7 @@ use Rattle.std.specs.List.{ends_with}
 use Rattle.std.specs.Global.{Vec}
 use Rattle.hosts.specs.Event.{Event}
 use Rattle.char_pack.specs.Packing.{words_of_bytes}
-use Rattle.char_pack.specs.declared.forms.GetForm.TheVariants.{Frames, Tape}
+use Rattle.archive_files.specs.declared.forms.GetForm.TheVariants.{Frames, Tape}
 use Rattle.core_image.specs.Converted.{IsBinOf}
 use Rattle.core_image.specs.declared.faults.CoreFault.{CoreFault}
 use Rattle.refusals.specs.declared.faults.SessionFault.TheVariants.{Memory}

@@ -2,7 +2,7 @@
 use Rattle.std.specs.Prelude.{◌≡◌, ℕ, Option, None, Some, Result, Ok, Err, List, length}
 use Rattle.std.specs.Global.{Vec}
 use Rattle.hosts.specs.Event.{Event}
-use Rattle.char_pack.specs.declared.forms.GetForm.TheVariants.{Frames}
+use Rattle.archive_files.specs.declared.forms.GetForm.TheVariants.{Frames}
 use Rattle.rim_tape.specs.Fault.{IsFault}
 use Rattle.rim_tape.specs.declared.faults.RimFault.{RimFault}
 use Rattle.archive_files.specs.Asking.{target_of}

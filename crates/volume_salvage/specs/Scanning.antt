@@ -2,8 +2,8 @@
 use Rattle.std.specs.Prelude.{◌≡◌, ℕ, ◌*◌, ◌/◌, ◌%◌, ◌&&◌, nat_le, Bool, if◌then◌else◌, codes, decimal, Result, Ok, Err, List, [], ◌∷◌, ◌++◌, length, map, take, drop}
 use Rattle.char_pack.specs.Packing.{frames}
 use Rattle.char_pack.specs.declared.packing.TheConstants.{BLOCK_FRAMES}
-use Rattle.char_pack.specs.declared.forms.GetForm.{GetForm}
-use Rattle.char_pack.specs.declared.forms.GetForm.TheVariants as form
+use Rattle.archive_files.specs.declared.forms.GetForm.{GetForm}
+use Rattle.archive_files.specs.declared.forms.GetForm.TheVariants as form
 use Rattle.block_scan.specs.Pieces.{texts_among}
 use Rattle.block_scan.specs.Programs.{AreProgramsOf}
 use Rattle.block_scan.specs.Segments.{segments_among}

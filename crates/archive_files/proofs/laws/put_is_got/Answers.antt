@@ -1,6 +1,6 @@
 use Rattle.std.proofs.Common.{◌∙◌, ◌-◌, ◌*◌, List, ℕ, subst, sym, length}
 use Rattle.char_pack.specs.Packing.{packed_blocks, block_count, block_frames}
-use Rattle.char_pack.specs.declared.forms.GetForm.TheVariants.{Frames, Text, Tape}
+use Rattle.archive_files.specs.declared.forms.GetForm.TheVariants.{Frames, Text, Tape}
 use Rattle.archive_files.specs.Asking.{OfName}
 use Rattle.archive_files.specs.Getting.{IsTapeOf}
 use Rattle.archive_files.specs.HostTexts.{file_text, text_words}

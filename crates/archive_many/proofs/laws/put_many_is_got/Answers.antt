@@ -1,5 +1,5 @@
 use Rattle.std.proofs.Common.{◌∙◌}
-use Rattle.char_pack.specs.declared.forms.GetForm.TheVariants as get_as
+use Rattle.archive_files.specs.declared.forms.GetForm.TheVariants as get_as
 use Rattle.archive_many.proofs.LawLemmas.{frames-got, others-lie, others-stay, put-got, put-there}
 use Rattle.archive_many.proofs.laws.put_many_is_got.Goals as goal
 

@@ -1,6 +1,6 @@
 use Rattle.std.proofs.Common.{None, refl}
 use Rattle.archive_files.specs.Laws.{whole_blocks}
-use Rattle.char_pack.specs.declared.forms.GetForm.TheVariants as get_as
+use Rattle.archive_files.specs.declared.forms.GetForm.TheVariants as get_as
 use Rattle.keeper_laws.proofs.BackLemmas.{is-printed}
 use Rattle.program_laws.proofs.AssembleBackLemmas.{map-of}
 use Rattle.program_laws.proofs.laws.assembly_comes_back.Goals as goal
