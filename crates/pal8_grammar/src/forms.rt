@@ -5,6 +5,7 @@ ghost use Rattle.pal8_grammar.specs.Bodies.{ends_condition, form_by, is_conditio
 
 use crate::Body;
 use crate::kinds::name_of;
+use pal_lex::name;
 use pal8_lex::{End, Name, Token};
 
 /// What a reserved name begins.
@@ -29,18 +30,6 @@ pub enum Form {
     FixOperation,
     /// Nothing.
     Later,
-}
-
-/// The number of a name of up to six characters, of which missing ones are written as 0.
-macro_rules! name {
-    ($a:literal $b:literal $c:literal $d:literal $e:literal $f:literal) => {
-        0o10000000000 * ($a as u64 % 0o100)
-            + 0o100000000 * ($b as u64 % 0o100)
-            + 0o1000000 * ($c as u64 % 0o100)
-            + 0o10000 * ($d as u64 % 0o100)
-            + 0o100 * ($e as u64 % 0o100)
-            + ($f as u64 % 0o100)
-    };
 }
 
 const DECIMAL: u64 = name!(b'D' b'E' b'C' b'I' b'M' b'A');

@@ -6,19 +6,13 @@ ghost use Rattle.pal8_grammar.specs.Names.{free_name, name_of};
 ghost use Rattle.pal8_grammar.specs.SourceNames.{names_of, vocabulary_of};
 
 use crate::{Rules, SourceNames, Step, is_reserved};
+use pal_lex::name;
 use pal8_lex::{Kind, Name, Number, Operator, Pool, Radix};
 use word12::Word;
 
-/// The number of a name of one letter.
-macro_rules! name {
-    ($a:literal) => {
-        0o10000000000 * ($a as u64 % 0o100)
-    };
-}
+const INDIRECT: u64 = name!(b'I' 0 0 0 0 0);
 
-const INDIRECT: u64 = name!(b'I');
-
-const ZERO: u64 = name!(b'Z');
+const ZERO: u64 = name!(b'Z' 0 0 0 0 0);
 
 /// The operation that a token names, with its word.
 pub fn operation_of(names: &SourceNames, kind: Kind) -> Option<(Name, Word)>

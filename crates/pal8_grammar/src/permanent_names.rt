@@ -6,21 +6,10 @@ ghost use Rattle.pal_lex.specs.Language.{operation_of};
 ghost use Rattle.pal8_grammar.specs.Permanent.{is_one_of, is_reserved, permanent, soft_by, soft_names, standing_of};
 ghost use Rattle.pal8_grammar.specs.NameSteps.{all_words};
 
+use pal_lex::{is_reserved_number, name, operation_of_number};
 use pal_sym::{SymbolName, Symbols};
 use pal8_lex::Name;
 use word12::Word;
-
-/// The number of a name of up to six characters, of which missing ones are written as 0.
-macro_rules! name {
-    ($a:literal $b:literal $c:literal $d:literal $e:literal $f:literal) => {
-        0o10000000000 * ($a as u64 % 0o100)
-            + 0o100000000 * ($b as u64 % 0o100)
-            + 0o1000000 * ($c as u64 % 0o100)
-            + 0o10000 * ($d as u64 % 0o100)
-            + 0o100 * ($e as u64 % 0o100)
-            + ($f as u64 % 0o100)
-    };
-}
 
 /// How a permanent name stands to a source's own definitions.
 #[derive(Clone, Copy)]
@@ -112,13 +101,7 @@ const RESERVED_NAMES: [u64; 17] = [
 pub(crate) fn is_operation(name: Name) -> bool
     ensures { result ≡ is_some (operation_of name) }
 {
-    let number = name.number();
-    number == name!(b'A' b'N' b'D' 0 0 0)
-        || number == name!(b'T' b'A' b'D' 0 0 0)
-        || number == name!(b'I' b'S' b'Z' 0 0 0)
-        || number == name!(b'D' b'C' b'A' 0 0 0)
-        || number == name!(b'J' b'M' b'S' 0 0 0)
-        || number == name!(b'J' b'M' b'P' 0 0 0)
+    operation_of_number(name.number()).is_some()
 }
 
 /// How one of PAL III's permanent names stands to definitions.
@@ -132,24 +115,11 @@ fn standing_of(name: Name) -> Standing
     }
 }
 
-/// Whether a name is reserved in PAL III, too.
-fn is_old_reserved(name: Name) -> bool
-    ensures { result ≡ old.is_reserved name }
-{
-    let number = name.number();
-    number == name!(b'D' b'E' b'C' b'I' b'M' b'A')
-        || number == name!(b'O' b'C' b'T' b'A' b'L' 0)
-        || number == name!(b'F' b'I' b'E' b'L' b'D' 0)
-        || number == name!(b'P' b'A' b'U' b'S' b'E' 0)
-        || number == name!(b'I' 0 0 0 0 0)
-        || number == name!(b'Z' 0 0 0 0 0)
-}
-
 /// Whether a name stands for a form of statement and not for a value, or is `I` or `Z` (PAL8, in this project's profile).
 pub fn is_reserved(name: Name) -> bool
     ensures { result ≡ is_reserved name }
 {
-    is_old_reserved(name) || is_one_of(&RESERVED_NAMES, name.number())
+    is_reserved_number(name.number()) || is_one_of(&RESERVED_NAMES, name.number())
 }
 
 /// Whether a number is one of a list.

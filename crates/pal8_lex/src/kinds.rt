@@ -4,23 +4,13 @@ ghost use Rattle.pal8_lex.specs.Steps.{head_again};
 
 use crate::Kind;
 use crate::rules::Head;
+use pal_lex::name;
 
-/// The number of a name of up to six characters, of which missing ones are written as 0.
-macro_rules! name {
-    ($a:literal $b:literal $c:literal $d:literal $e:literal) => {
-        0o10000000000 * ($a as u64 % 0o100)
-            + 0o100000000 * ($b as u64 % 0o100)
-            + 0o1000000 * ($c as u64 % 0o100)
-            + 0o10000 * ($d as u64 % 0o100)
-            + 0o100 * ($e as u64 % 0o100)
-    };
-}
+const TEXT: u64 = name!(b'T' b'E' b'X' b'T' 0 0);
 
-const TEXT: u64 = name!(b'T' b'E' b'X' b'T' 0);
+const EJECT: u64 = name!(b'E' b'J' b'E' b'C' b'T' 0);
 
-const EJECT: u64 = name!(b'E' b'J' b'E' b'C' b'T');
-
-const XLIST: u64 = name!(b'X' b'L' b'I' b'S' b'T');
+const XLIST: u64 = name!(b'X' b'L' b'I' b'S' b'T' 0);
 
 /// Whether a blank after such a token means something, as far as the token decides it.
 #[inline(always)]

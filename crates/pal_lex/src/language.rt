@@ -1,19 +1,7 @@
 ghost use Rattle.std.specs.Prelude.{◌≡◌};
 ghost use Rattle.pal_lex.specs.Language.{is_reserved, operation_of, name_of_term, name_of, is_named, free_name, operation_in};
 
-use crate::{Kind, Name, Operation, Term};
-
-/// The number of a name of up to six characters, of which missing ones are written as 0.
-macro_rules! name {
-    ($a:literal $b:literal $c:literal $d:literal $e:literal $f:literal) => {
-        0o10000000000 * ($a as u64 % 0o100)
-            + 0o100000000 * ($b as u64 % 0o100)
-            + 0o1000000 * ($c as u64 % 0o100)
-            + 0o10000 * ($d as u64 % 0o100)
-            + 0o100 * ($e as u64 % 0o100)
-            + ($f as u64 % 0o100)
-    };
-}
+use crate::{Kind, Name, Operation, Term, name};
 
 /// `DECIMAL`, of which six characters count.
 pub const DECIMAL: u64 = name!(b'D' b'E' b'C' b'I' b'M' b'A');
@@ -45,7 +33,13 @@ const JMP: u64 = name!(b'J' b'M' b'P' 0 0 0);
 pub fn is_reserved(name: Name) -> bool
     ensures { result ≡ is_reserved name }
 {
-    let number = name.number();
+    is_reserved_number(name.number())
+}
+
+/// Whether the name of this number has a meaning of its own, and stands for no value.
+pub fn is_reserved_number(number: u64) -> bool
+    ensures { result ≡ is_reserved number }
+{
     number == DECIMAL
         || number == OCTAL
         || number == FIELD
@@ -54,11 +48,10 @@ pub fn is_reserved(name: Name) -> bool
         || number == ZERO_PAGE
 }
 
-/// The operation that a name means at the beginning of a memory reference.
-fn operation_of(name: Name) -> Option<Operation>
-    ensures { result ≡ operation_of name }
+/// The operation that the name of this number means at the beginning of a memory reference.
+pub fn operation_of_number(number: u64) -> Option<Operation>
+    ensures { result ≡ operation_of number }
 {
-    let number = name.number();
     if number == AND {
         Some(Operation::And)
     } else if number == TAD {
@@ -122,5 +115,5 @@ pub fn operation_in(kind: Kind) -> Option<Operation>
     ensures { result ≡ operation_in kind }
 {
     let name = name_of(kind)?;
-    operation_of(name)
+    operation_of_number(name.number())
 }

@@ -18,6 +18,7 @@ mod phrases;
 mod pieces;
 mod runs;
 
+pub use language::{is_reserved_number, operation_of_number};
 pub use lexing::Lexer;
 pub use naming::Name;
 pub use pal_faults::LexFault;

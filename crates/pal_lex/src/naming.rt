@@ -2,6 +2,19 @@ ghost use Rattle.std.specs.Prelude.{◌≡◌, ℕ};
 
 use std::marker::Model;
 
+/// The number of a name of up to six characters, of which missing ones are written as 0.
+#[macro_export]
+macro_rules! name {
+    ($a:literal $b:literal $c:literal $d:literal $e:literal $f:literal) => {
+        0o10000000000 * ($a as u64 % 0o100)
+            + 0o100000000 * ($b as u64 % 0o100)
+            + 0o1000000 * ($c as u64 % 0o100)
+            + 0o10000 * ($d as u64 % 0o100)
+            + 0o100 * ($e as u64 % 0o100)
+            + ($f as u64 % 0o100)
+    };
+}
+
 /// A name in a source: a letter followed by letters and digits, of which the first six characters count (PAL III
 /// Symbolic Assembler manual).
 ///
