@@ -8,6 +8,7 @@ ghost use Rattle.pal_lex.specs.Progress.{setting};
 ghost use Rattle.pal_lex.specs.Reading.{HasRead, HasPaused, HasFailed, Answers, Pauses, ReadsOn, Ends, EndsSource, BeginsNext};
 ghost use Rattle.pal_lex.specs.JudgeSteps.{Judges, comment_after, dies, after_byte, after_statement, ended_statement, after_pause, pause_statement, next, after_fault};
 
+use crate::characters::{LINE_FEED, before_cr, comment_after, dies, is_end, is_ignored};
 use crate::drafts::Draft;
 use crate::grammar::{has_bad_number, phrase_of_tokens};
 use crate::language::{PAUSE, is_named};
@@ -25,61 +26,6 @@ enum State {
     /// After the `$` that ends the source.
     Over,
     Failed(LexFault),
-}
-
-const LINE_FEED: u8 = 0o012;
-
-const FORM_FEED: u8 = 0o014;
-
-const RUBOUT: u8 = 0o177;
-
-/// Whether a byte is as if it weren't there.
-#[inline(always)]
-fn is_ignored(byte: u8) -> bool
-    ensures { result ≡ is_ignored byte }
-{
-    matches!(byte, 0 | LINE_FEED | FORM_FEED | RUBOUT)
-}
-
-/// Whether a comment goes on after a byte.
-#[inline(always)]
-fn comment_after(comment: bool, byte: u8) -> bool
-    ensures { result ≡ comment_after comment byte }
-{
-    match byte {
-        b'\r' => false,
-        b'/' => true,
-        _ => comment,
-    }
-}
-
-/// Whether a byte means nothing, where a comment goes on or not.
-#[inline(always)]
-fn dies(comment: bool, byte: u8) -> bool
-    ensures { result ≡ dies comment byte }
-{
-    is_ignored(byte) || comment_after(comment, byte)
-}
-
-/// How many bytes at the prefix of these are no CR.
-#[inline(always)]
-fn before_cr(bytes: &[u8]) -> usize
-    ensures range { result ≤ length bytes.now }
-    ensures none { has_cr (take result bytes.now) ≡ false }
-{
-    let mut count = 0;
-    while count < bytes.len() && bytes[count] != b'\r' {
-        count += 1;
-    }
-    count
-}
-
-/// Whether a byte ends a statement, where it means something.
-#[inline(always)]
-fn is_end(byte: u8) -> bool
-    ensures { result ≡ is_end byte }
-{
-    matches!(byte, b';' | b'\r' | b'$')
 }
 
 /// The radix after a statement.

@@ -5,6 +5,7 @@
 //! A [`Name`] is a number, and lists of names, tokens and terms are lists in their order.
 #![tactic(auto)]
 
+mod characters;
 mod drafts;
 mod expressions;
 mod grammar;

@@ -1,6 +1,6 @@
 use Rattle.std.proofs.Common.{◌≡◌, ◌-◌, ◌≤◌, false, length, take}
 use Rattle.pal_lex.specs.Steps.{has_cr}
-use Rattle.pal_lex.proofs.lexing.before_cr.Given as goal
+use Rattle.pal_lex.proofs.characters.before_cr.Given as goal
 
 abbrev pub invariant-loop-count : goal.invariant-loop-count
 invariant-loop-count l = record {

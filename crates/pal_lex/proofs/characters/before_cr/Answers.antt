@@ -1,6 +1,6 @@
 use Rattle.std.proofs.Common.{arith}
 use Rattle.pal_lex.proofs.RunLemmas.{no_cr_more}
-use Rattle.pal_lex.proofs.lexing.before_cr.Goals as goal
+use Rattle.pal_lex.proofs.characters.before_cr.Goals as goal
 
 pub loop-count-preserved : goal.loop-count-preserved
 loop-count-preserved c = record {
