@@ -168,7 +168,7 @@ def last_line(row: Row, liar: str, room: str, page: str) -> tuple[int | None, st
     words = [given if it.startswith("{liar") else built(it[1:-1]) if it.startswith("{") else it for it in row.words]
     seconds = OF_NAMED if liar in row.finds else OF_PAGES if row.kind() == PAGE else PATIENCE
     patience = {"PATIENCE": str(seconds * (1000 if row.kind() == PAGE else 1))}
-    env = {**os.environ, "KEPT": f"{room}/kept", **({} if liar in IS_HONEST else patience), **more}
+    env = {**os.environ, "KEPT": f"{room}/kept", "TRIES": "1", **({} if liar in IS_HONEST else patience), **more}
     with open(f"{room}/said", "w+b") as said:
         run = subprocess.Popen(words, cwd=TOP, env=env, stdin=subprocess.DEVNULL, stdout=said, stderr=subprocess.STDOUT, start_new_session=True)
         try:

@@ -54,6 +54,8 @@ RUNS += [("tests/hosts/check_shown_names.py",)]
 RUNS += [("tests/model/check_pal8_rows.py",), ("tests/model/compare_indexes.py",), ("tests/model/compare_lenient.py",), ("tests/model/compare_scans.py",)]
 RUNS += [("tests/model/compare_kinds.py",)]
 RUNS += [("tests/model/compare_pal8_faults.py",), ("tests/model/compare_pal8_tapes.py",), ("tests/model/compare_pal8_notes.py",)]
+# What a line says that tells of a failure.
+FAILS = re.compile(r"\bNOT\b|\bfail(?!ed$)|\bbroke off\b|\berror\b")
 # How many random cases the plain models are given where a contributor waits.
 FEW: dict[str, Words] = {"tests/model/compare_scripts.py": ("--scripts", "50"), "tests/model/compare_host_commands.py": ("--cases", "30"), "tests/model/compare_archives.py": ("--cases", "20")}
 FEW["tests/model/compare_indexes.py"] = ("--images", "200")
@@ -101,8 +103,8 @@ def announce(count: int, is_quick: bool) -> None:
 
 
 class Part:
-    """A part of the gate. What rt ci prints is shown as it comes, with how many crates it has proved, and what others print at their end. The
-    last lines of those that fail are shown once more at the gate's end, since a log may be cut."""
+    """A part of the gate. What rt ci prints is shown as it comes, with how many crates it has proved, and what others print at their end. Of those
+    that fail the last lines, and those that tell of a failure, are shown once more at the gate's end, since a log may be cut."""
 
     printing = threading.Lock()
     failures = list[str]()
@@ -113,10 +115,14 @@ class Part:
         self.words, self.begun, self.proved = words, begun, set[str]()
         self.kinds: counts.Counts = {}
         self.last = collections.deque[str](maxlen=12)
+        self.told = list[str]()
         self.held: list[str] | None = None if words == RT_CI else []
 
     def show(self, line: str) -> None:
-        self.last.append(line if len(line) < 400 else f"{line[:400]} ..\n")
+        short = line if len(line) < 400 else f"{line[:400]} ..\n"
+        self.last.append(short)
+        if FAILS.search(line) and len(self.told) < 12:
+            self.told.append(short)
         if self.held is not None:
             self.held.append(line)
             return
@@ -167,7 +173,8 @@ class Part:
             with self.printing:
                 print(f"gate: {' '.join(self.words)}, {clock(time.monotonic() - self.begun)}\n{''.join(self.held)}", end="", flush=True)
         if not ran or ran[1]:
-            self.failures.append(f"gate: {' '.join(self.words)} failed:\n{''.join(self.last)}")
+            lines = [*(it for it in self.told if it not in self.last), *self.last]
+            self.failures.append(f"gate: {' '.join(self.words)} failed:\n{''.join(lines)}")
         self.found[" ".join(self.words)] = None if not ran or ran[1] else counts_of(self.kinds, ran[0])
         return ran or (0, 1)
 

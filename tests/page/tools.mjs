@@ -123,30 +123,57 @@ export async function removeVolume(page) {
 /** @param {Test} body @returns {Test} */
 export const alone = body => Object.assign(body, { isAlone: true });
 
+// How often a test is tried: a browser on a busy machine may come late once. A planted fault must be noticed at the first try.
+const TRIES = Number(process.env.TRIES ?? 2);
+
+/** @param {unknown} error */
+const words = error => error instanceof Error ? error.message : String(error);
+
+// Tries a test until it passes, and returns whether it does. The line of one that passes late says why it didn't at first.
+/** @param {string} title @param {string} name @param {() => Promise<string>} body what gives a word to add to its line */
+async function passes(title, name, body) {
+    const why = [];
+    while (why.length < TRIES) {
+        try {
+            const noted = await body();
+            console.log(`${title}: ${name}${noted}${why.map(it => `, at a further try; before: ${it}`).join('')}`);
+            return true;
+        } catch (error) {
+            why.push(words(error));
+        }
+    }
+    console.log(`${title}: NOT ${name}: ${why.join('; again: ')}`);
+    return false;
+}
+
 // Runs the tests, by their names, of a file of this name, and prints 'N passed, M failed'.
 /** @param {string} title @param {Tests} tests */
 export async function run(title, tests) {
     const browser = await Browser.open();
-    let passed = 0, failed = 0;
+    const counts = { passed: 0, failed: 0 };
     for (const [name, body] of Object.entries(tests).filter(([it]) => !only.length || only.some(part => it.includes(part)))) {
-        const server = await serve(folder), page = await (body.isAlone ? Browser.open() : browser.user());
-        work = mkdtempSync(join(tmpdir(), `${title}-`));
-        try {
-            await page.size(1200, 900);
-            await body(page, server.url);
-            if (page.errors.length) throw new Error(page.errors.join('; '));
-            passed++;
-            console.log(`${title}: ${name}`);
-        } catch (error) {
-            failed++;
-            console.log(`${title}: NOT ${name}: ${error instanceof Error ? error.message : error}`);
-        } finally {
-            await page.end();
-            server.end();
-            rmSync(work, { recursive: true, force: true });
-        }
+        const isPassed = await passes(title, name, async () => {
+            const server = await serve(folder), page = await (body.isAlone ? Browser.open() : browser.user());
+            work = mkdtempSync(join(tmpdir(), `${title}-`));
+            try {
+                await page.size(1200, 900);
+                await body(page, server.url);
+                if (page.errors.length) throw new Error(page.errors.join('; '));
+                return '';
+            } finally {
+                await page.end();
+                server.end();
+                rmSync(work, { recursive: true, force: true });
+            }
+        });
+        counts[isPassed ? 'passed' : 'failed']++;
     }
     await browser.end();
+    tellCounts(counts);
+}
+
+/** @param {{ passed: number, failed: number }} counts */
+function tellCounts({ passed, failed }) {
     console.log(`${passed} passed, ${failed} failed`);
     process.exitCode = failed ? 1 : 0;
 }
@@ -159,24 +186,20 @@ export const note = text => { noted = `: ${text}`; };
 // alone needs nothing of those before it.
 /** @param {string} title @param {Turn[]} tests */
 export async function runInTurn(title, tests) {
-    const server = await serve(folder), page = await Browser.open();
-    let passed = 0, failed = 0;
+    const server = await serve(folder), page = await Browser.open(), counts = { passed: 0, failed: 0 };
     work = mkdtempSync(join(tmpdir(), `${title}-`));
     try {
         await page.size(1200, 900);
         await page.go(server.url);
         for (const { name, body } of tests.filter(({ name }) => !only.length || only.some(part => name.includes(part)))) {
             const from = Date.now();
-            noted = '';
-            try {
+            const isPassed = await passes(title, name, async () => {
+                noted = '';
                 await body(page, server);
                 holds(page.errors.length === 0, `errors of the page: ${page.errors}`);
-                passed++;
-                console.log(`${title}: ${name}${noted} (${((Date.now() - from) / 1000).toFixed(1)} s)`);
-            } catch (error) {
-                failed++;
-                console.log(`${title}: NOT ${name}: ${error instanceof Error ? error.message : error}`);
-            }
+                return `${noted} (${((Date.now() - from) / 1000).toFixed(1)} s)`;
+            });
+            counts[isPassed ? 'passed' : 'failed']++;
             page.errors.splice(0);
         }
     } finally {
@@ -184,6 +207,5 @@ export async function runInTurn(title, tests) {
         server.end();
         rmSync(work, { recursive: true, force: true });
     }
-    console.log(`${passed} passed, ${failed} failed`);
-    process.exitCode = failed ? 1 : 0;
+    tellCounts(counts);
 }
