@@ -14,7 +14,7 @@ sys.dont_write_bytecode = True
 HERE = os.path.dirname(os.path.abspath(__file__))
 TOP = os.path.dirname(os.path.dirname(HERE))
 sys.path.insert(0, TOP)
-from tests.model.pal8 import answer
+from tests.model.pal8_faults import answer
 from tests.options import patience
 from tests.tally import Tally, fault_in
 

@@ -16,7 +16,8 @@ TOP = os.path.dirname(os.path.dirname(os.path.dirname(os.path.abspath(__file__))
 sys.path.insert(0, TOP)
 from tests.model.compare_indexes import program_and_seeds
 from tests.model.compare_pal8_sources import PIECES, Maker, nearly_bytes, options_by
-from tests.model.pal8 import Options, answer, headlines, listing
+from tests.model.pal8_faults import answer, headlines, listing
+from tests.model.pal8_grammar import Options
 from tests.options import patience
 from tests.tally import Tally, fault_in
 

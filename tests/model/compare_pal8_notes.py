@@ -19,7 +19,8 @@ TOP = os.path.dirname(os.path.dirname(os.path.dirname(os.path.abspath(__file__))
 sys.path.insert(0, TOP)
 from tests.model.compare_pal8_faults import several_texts
 from tests.model.compare_pal8_sources import Maker, nearly_bytes, options_by
-from tests.model.pal8 import PLAIN, Fault, Options, pairs
+from tests.model.pal8 import pairs
+from tests.model.pal8_grammar import PLAIN, Fault, Options
 from tests.model.pal8_notes import notes_text
 from tests.options import patience
 from tests.tally import Tally, fault_in

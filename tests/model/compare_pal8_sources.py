@@ -16,7 +16,8 @@ HERE = os.path.dirname(os.path.abspath(__file__))
 TOP = os.path.dirname(os.path.dirname(HERE))
 sys.path.insert(0, TOP)
 from tests.model import check_pal8_rows
-from tests.model.pal8 import PLAIN, Options, placed_answer
+from tests.model.pal8_faults import placed_answer
+from tests.model.pal8_grammar import PLAIN, Options
 from tests.options import patience
 from tests.tally import Tally, fault_in
 

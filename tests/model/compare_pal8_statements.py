@@ -16,7 +16,7 @@ sys.dont_write_bytecode = True
 HERE = os.path.dirname(os.path.abspath(__file__))
 TOP = os.path.dirname(os.path.dirname(HERE))
 sys.path.insert(0, TOP)
-from tests.model.pal8 import Statement, Token, live_text, statements
+from tests.model.pal8_grammar import Statement, Token, live_text, statements
 from tests.options import patience
 from tests.tally import Tally, fault_in
 

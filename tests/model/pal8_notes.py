@@ -6,7 +6,7 @@ looked at by itself: from it back to where its expression begins.
 from __future__ import annotations
 
 from tests.model import pal8
-from tests.model.pal8 import OPERATORS, RESERVED, Options, Statement, Texts, Token
+from tests.model.pal8_grammar import OPERATORS, PLAIN, RESERVED, Options, Statement, Texts, Token, name_in, place_in
 
 WORDS = {
     "apart": "palbart ors what stands before and after a blank before an operator",
@@ -21,13 +21,13 @@ def is_operator(token: Token) -> bool:
 
 def is_term(token: Token) -> bool:
     """Whether a token is a term that is no literal."""
-    return token.kind in ("here", "character") or token.kind == "run" and pal8.name_in(token) not in RESERVED
+    return token.kind in ("here", "character") or token.kind == "run" and name_in(token) not in RESERVED
 
 
 def is_apart(text: bytes, tokens: list[Token]) -> bool:
     """Whether a byte that is no token stands between a term and an operator."""
     pairs = [(a, b) for a, b in zip(tokens, tokens[1:]) if is_term(a) and is_operator(b)]
-    return any(pal8.place_in(text, a.end - 1) + 1 < pal8.place_in(text, b.start) for a, b in pairs)
+    return any(place_in(text, a.end - 1) + 1 < place_in(text, b.start) for a, b in pairs)
 
 
 def spaced_tokens(tokens: list[Token]) -> list[tuple[Token, bool]]:
@@ -54,7 +54,7 @@ def expression_before(tokens: list[tuple[Token, bool]]) -> list[tuple[Token, boo
 
 def is_joined(tokens: list[tuple[Token, bool]], operations: dict[str, int]) -> bool:
     """Whether a blank joins terms of an expression: one after the name of an operation or of a form, or `I` or `Z` after that, does not."""
-    names = [pal8.name_in(token) for token, _ in tokens]
+    names = [name_in(token) for token, _ in tokens]
     first = 0
     if names and (names[0] in RESERVED or names[0] in operations):
         first = 1
@@ -89,6 +89,6 @@ class NotingSource(pal8.Source):
         return super().judge(statement)
 
 
-def notes_text(texts: Texts, names: list[str], options: Options = pal8.PLAIN) -> str:
+def notes_text(texts: Texts, names: list[str], options: Options = PLAIN) -> str:
     """The notes on texts that have no fault, each a line."""
     return "".join(f"{names[number]}:{line}: note: {WORDS[kind]}\n" for number, line, kind in NotingSource(texts, options).notes)

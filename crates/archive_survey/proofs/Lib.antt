@@ -2,4 +2,5 @@ mod ReadingLemmas
 mod JudgingLemmas
 mod ClaimLemmas
 mod SoundLemmas
+mod WholeLemmas
 mod FoundLemmas

@@ -3,4 +3,5 @@ pub mod WordLemmas
 pub mod NearLemmas
 pub mod AskLemmas
 pub mod ReachLemmas
+pub mod LiteralLemmas
 pub mod GrowLemmas

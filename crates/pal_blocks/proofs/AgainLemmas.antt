@@ -29,7 +29,8 @@ use Rattle.pal_blocks.specs.Turns.{TakesBlock, MakesTarget}
 use Rattle.pal_blocks.proofs.BeginLemmas.{as_many}
 use Rattle.pal_blocks.proofs.TextLemmas.{JoinedCharacters}
 use Rattle.pal_blocks.proofs.PlaceLemmas.{among_append, all_among, IsAfter, told_in, told_whole, within_whole, so_far, next_source}
-use Rattle.pal_blocks.proofs.TurnLemmas.{the_second, due_block, block_inside, more_frames, count_is, none_more, known_all, from_none, from_now, fault_all, takes_fault, lt_from, last_block, how_many, no_others, may_pause_next, next_place, end_missing, all_read}
+use Rattle.pal_blocks.proofs.TurnLemmas.{the_second, due_block, block_inside, more_frames, count_is, none_more, known_all, from_none, from_now, fault_all, takes_fault, lt_from, last_block, how_many, no_others, may_pause_next, next_place, end_missing}
+use Rattle.pal_blocks.proofs.LastBlockLemmas.{all_read}
 
 abbrev pub MakesClause : Pass → List (ℕ × ℕ) → List ℕ → ℕ → ℕ → Result (Unit {0}) AsmFault → Pass → List (ℕ × ℕ) → Type 0
 MakesClause old pairs block offset offset' result new pairs' =

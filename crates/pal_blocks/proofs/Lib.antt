@@ -3,5 +3,6 @@ pub mod TextLemmas
 pub mod BlockLemmas
 pub mod PlaceLemmas
 pub mod TurnLemmas
+pub mod LastBlockLemmas
 pub mod AgainLemmas
 pub mod WorkedRows

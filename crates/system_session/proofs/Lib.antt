@@ -12,4 +12,5 @@ pub mod RefusalLemmas
 pub mod SameLemmas
 pub mod ReplyLemmas
 pub mod OtherLemmas
+pub mod OtherReplyLemmas
 pub mod RoadLemmas

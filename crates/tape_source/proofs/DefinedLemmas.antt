@@ -11,7 +11,7 @@ use Rattle.tape_source.specs.Lines.{source_with}
 use Rattle.tape_source.specs.Sources.{with_word, words_below, words_of_tape}
 use Rattle.tape_source.specs.Defined.{tags_of, IsNoneOf, Differ, DefinesTags}
 use Rattle.tape_source.proofs.StepLemmas.{names_older, statement_of, label, listed_more}
-use Rattle.tape_source.proofs.SourceLemmas.{source_whole, source_tags}
+use Rattle.tape_source.proofs.WholeLemmas.{source_whole, source_tags}
 use Rattle.tape_source.proofs.TapeLemmas.{last_of_tape, below_none, below_more, below_pairs}
 use Rattle.tape_source.proofs.ShownLemmas.{are_shown}
 

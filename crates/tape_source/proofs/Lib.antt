@@ -5,6 +5,7 @@ pub mod TagLemmas
 pub mod GrammarLemmas
 pub mod StepLemmas
 pub mod SourceLemmas
+pub mod WholeLemmas
 pub mod TapeLemmas
 pub mod MarkLemmas
 pub mod ShownLemmas

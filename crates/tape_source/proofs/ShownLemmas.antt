@@ -19,7 +19,8 @@ use Rattle.tape_source.proofs.ReferenceLemmas.{referred_inside, shown_reference}
 use Rattle.tape_source.proofs.NameLemmas.{shown_names}
 use Rattle.tape_source.proofs.DatumLemmas.{shown_number, inside_field, shown_datum}
 use Rattle.tape_source.proofs.TapeLemmas.{last_of_tape, below_pairs}
-use Rattle.tape_source.proofs.SourceLemmas.{IsShown, AreShown, source_read}
+use Rattle.tape_source.proofs.SourceLemmas.{IsShown, AreShown}
+use Rattle.tape_source.proofs.WholeLemmas.{source_read}
 
 shown : (look : Look) (tagged : ℕ → Bool) (cell word : ℕ) → IsNaming look.name → cell < 32768 → word < 4096 → IsShown look tagged cell word (statement look tagged cell word)
 shown look tagged cell word naming inside small = by_cell (look.is_code cell) refl

@@ -6,5 +6,6 @@ pub mod WaitLemmas
 pub mod LoopLemmas
 pub mod LookLemmas
 pub mod RunLemmas
+pub mod RunEndLemmas
 pub mod ReadLemmas
 pub mod EndLemmas

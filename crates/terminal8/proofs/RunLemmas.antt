@@ -59,7 +59,7 @@ abbrev is-some : {T : Type 0} → Option T → Bool
 is-some None = false
 is-some (Some x) = true
 
-none-empty : (before after : List (Option ℕ)) → before ++ None ∷ after ≡ [] → ⊥
+pub none-empty : (before after : List (Option ℕ)) → before ++ None ∷ after ≡ [] → ⊥
 none-empty [] after is = cc
 none-empty (look ∷ before) after is = cc
 
@@ -100,10 +100,10 @@ begun form input s r w running = record {
 -- ## The operator attends
 
 -- more looks were made
-joined : (old : State) (looks found more : List (Option ℕ)) → new_terminal old ((looks ++ found) ++ more) ≡ new_terminal old (looks ++ (found ++ more))
+pub joined : (old : State) (looks found more : List (Option ℕ)) → new_terminal old ((looks ++ found) ++ more) ≡ new_terminal old (looks ++ (found ++ more))
 joined old looks found more = ap (λ l. new_terminal old l) (append_assoc looks found more)
 
-may-join : (over over' : Bool) (found more : List (Option ℕ)) → (over ≡ true → found ≡ []) → (over ≡ true → over' ≡ true) → MayFollow over' more
+pub may-join : (over over' : Bool) (found more : List (Option ℕ)) → (over ≡ true → found ≡ []) → (over ≡ true → over' ≡ true) → MayFollow over' more
     → MayFollow over (found ++ more)
 may-join over over' found more stays goes may is = ap (λ l. l ++ more) (stays is) ∙ may (goes is)
 
@@ -156,7 +156,7 @@ none-next form input k k' a a' over r r' r'' looks (None ∷ more) keys i s n be
     ]
 
 -- bytes were struck that give these keys, which looks found
-taken-more : (form : Form) (input : Input) (k k' : Keyboard) (a a' : List ℕ) (over over' : Bool) (r r' r'' : Option (List ℕ)) (looks found : List (Option ℕ)) (keys : List ℕ)
+pub taken-more : (form : Form) (input : Input) (k k' : Keyboard) (a a' : List ℕ) (over over' : Bool) (r r' r'' : Option (List ℕ)) (looks found : List (Option ℕ)) (keys : List ℕ)
     → IsTaken form input k a over r r' looks → StrikesKeys k k' a a' r' r'' keys → FindsKey input found keys → IsNoneOnly found keys a' r''
     → (over' ≡ true → HaveEnded input a' r'') → IsTaken form input k' a' over' r r'' (looks ++ found)
 taken-more form input k k' a a' over over' r r' r'' looks found keys i s finds none end = record {
@@ -170,14 +170,14 @@ taken-more form input k k' a a' over over' r r' r'' looks found keys i s finds n
   at_end = end;
 }
 
-taken-next : (form : Form) (input : Input) (k k' : Keyboard) (a a' : List ℕ) (over over' : Bool) (s s' : State) (since since' : ℕ) (r r' r'' : Option (List ℕ)) (looks : List (Option ℕ)) (starved : Bool)
+pub taken-next : (form : Form) (input : Input) (k k' : Keyboard) (a a' : List ℕ) (over over' : Bool) (s s' : State) (since since' : ℕ) (r r' r'' : Option (List ℕ)) (looks : List (Option ℕ)) (starved : Bool)
     → IsTaken form input k a over r r' looks → (at : Attends input k k' a a' over over' s s' since since' r' r'' starved)
     → IsTaken form input k' a' over' r r'' (looks ++ at.found)
 taken-next form input k k' a a' over over' s s' since since' r r' r'' looks starved i at =
     taken-more form input k k' a a' over over' r r' r'' looks at.found at.keys i at.strikes at.finds at.none_only (at.at_end i.at_end)
 
 -- the step after that
-step-at : (input : Input) (old s s' new : State) (k k' : Keyboard) (a a' : List ℕ) (over over' : Bool) (since since' : ℕ) (r r' : Option (List ℕ)) (looks : List (Option ℕ)) (steps : ℕ) (starved : Bool)
+pub step-at : (input : Input) (old s s' new : State) (k k' : Keyboard) (a a' : List ℕ) (over over' : Bool) (since since' : ℕ) (r r' : Option (List ℕ)) (looks : List (Option ℕ)) (steps : ℕ) (starved : Bool)
     → IsAt old looks over steps s since → RunsOn old looks over steps → (at : Attends input k k' a a' over over' s s' since since' r r' starved) → starved ≡ false
     → new ≡ (printing_step true s').0 → IsAt old (looks ++ at.found) over' (steps + 1) new (since' + 1)
 step-at input old s s' new k k' a a' over over' since since' r r' looks steps starved i runs at fed new_is = record {
@@ -207,7 +207,7 @@ step-did input old s s' k k' a a' over over' since since' r r' looks steps starv
     ∙ ap (λ t. (after_step t).1) (i.at (at.found ++ more) may')
     ∙ ap (λ (x : Terminal). (printing_step true x.machine).1) (at.attends more may)
 
-step-last : (input : Input) (old s s' : State) (k k' : Keyboard) (a a' : List ℕ) (over over' : Bool) (since since' : ℕ) (r r' : Option (List ℕ)) (looks : List (Option ℕ)) (steps : ℕ) (starved : Bool)
+pub step-last : (input : Input) (old s s' : State) (k k' : Keyboard) (a a' : List ℕ) (over over' : Bool) (since since' : ℕ) (r r' : Option (List ℕ)) (looks : List (Option ℕ)) (steps : ℕ) (starved : Bool)
     (did : Stepped) → IsAt old looks over steps s since → (at : Attends input k k' a a' over over' s s' since since' r r' starved) → did ≡ (printing_step true s').1
     → (more : List (Option ℕ)) → MayFollow over' more → last_did (steps + 1) (new_terminal old ((looks ++ at.found) ++ more)) ≡ did
 step-last input old s s' k k' a a' over over' since since' r r' looks steps starved did i at did_is more may =
@@ -216,7 +216,7 @@ step-last input old s s' k k' a a' over over' since since' r r' looks steps star
     ∙ sym did_is
 
 -- what it printed
-step-prints : (input : Input) (old s s' : State) (k k' : Keyboard) (a a' : List ℕ) (over over' : Bool) (since since' : ℕ) (r r' w w' w'' w''' : Option (List ℕ)) (p p' p'' : List ℕ)
+pub step-prints : (input : Input) (old s s' : State) (k k' : Keyboard) (a a' : List ℕ) (over over' : Bool) (since since' : ℕ) (r r' w w' w'' w''' : Option (List ℕ)) (p p' p'' : List ℕ)
     (looks : List (Option ℕ)) (steps : ℕ) (starved : Bool) (did : Stepped)
     → IsAt old looks over steps s since → Prints old looks over w w' p steps → (at : Attends input k k' a a' over over' s s' since since' r r' starved)
     → Passes w' w'' p p' [] → did ≡ (printing_step true s').1 → Passes w'' w''' p' p'' (visible_characters (character_of did))
@@ -249,7 +249,7 @@ goes-by (Ran printed) h = refl
 why-is : (a b : TerminalEnd) → Some a ≡ Some b → a ≡ b
 why-is a b h = ap (λ o. unwrap_or o a) h
 
-ends-by : (t : Terminal) (n steps : ℕ) (did : Stepped) (w : TerminalEnd) → last_did steps t ≡ did → stop_of did ≡ Some w → Ends t n steps w
+pub ends-by : (t : Terminal) (n steps : ℕ) (did : Stepped) (w : TerminalEnd) → last_did steps t ≡ did → stop_of did ≡ Some w → Ends t n steps w
 ends-by t n steps Halted w last is = subst (λ x. Ends t n steps x) (why-is why.Halt w is) (ap (λ d. has_halted d) last)
 ends-by t n steps Stopped w last is = subst (λ x. Ends t n steps x) (why-is why.Halt w is) (ap (λ d. has_halted d) last)
 ends-by t n steps (Unassigned word) w last is = subst (λ x. Ends t n steps x) (why-is why.Unassigned w is) (word, last)
@@ -262,11 +262,11 @@ is-keys why.Unassigned = false
 is-keys why.Keys = true
 is-keys why.Limit = false
 
-no-keys : (y : TerminalEnd) → is-keys y ≡ false → y ≡ why.Keys → ⊥
+pub no-keys : (y : TerminalEnd) → is-keys y ≡ false → y ≡ why.Keys → ⊥
 unfolding is-keys
 no-keys y other is = true≢false (ap (λ x. is-keys x) (sym is) ∙ other)
 
-stop-keys : (did : Stepped) (y : TerminalEnd) → stop_of did ≡ Some y → is-keys y ≡ false
+pub stop-keys : (did : Stepped) (y : TerminalEnd) → stop_of did ≡ Some y → is-keys y ≡ false
 unfolding is-keys
 stop-keys Halted y is = ap (λ x. is-keys x) (sym (why-is why.Halt y is))
 stop-keys Stopped y is = ap (λ x. is-keys x) (sym (why-is why.Halt y is))
@@ -274,11 +274,11 @@ stop-keys (Unassigned word) y is = ap (λ x. is-keys x) (sym (why-is why.Unassig
 stop-keys Interrupted y is = absurd (none-some y (sym is))
 stop-keys (Ran printed) y is = absurd (none-some y (sym is))
 
-halt-keys : is-keys why.Halt ≡ false
+pub halt-keys : is-keys why.Halt ≡ false
 unfolding is-keys
 halt-keys = refl
 
-limit-keys : is-keys why.Limit ≡ false
+pub limit-keys : is-keys why.Limit ≡ false
 unfolding is-keys
 limit-keys = refl
 
@@ -381,193 +381,3 @@ pub running-more : (form : Form) (input : Input) (old s new : State) (k : Keyboa
 running-more form input old s new k a over since r r' w w' p steps count i is answers asks =
     subst (λ x. IsRunning form input old x k a over (since + count) r r' w w' p (steps + count)) (sym is)
     (quiet-more form input old s k a over since r r' w w' p steps count i answers asks)
-
--- ## The ends of a run
-
-has-made : (form : Form) (input : Input) (old new : State) (k : Keyboard) (a : List ℕ) (over : Bool) (since : ℕ) (r r' : Option (List ℕ)) (looks : List (Option ℕ)) (steps : ℕ)
-    → IsAt old looks over steps new since → IsTaken form input k a over r r' looks → HasMadeSteps form input old new r r' looks over steps
-has-made form input old new k a over since r r' looks steps i t = record {
-  bytes = t.bytes;
-  ahead = a;
-  taken = t.taken;
-  finds = t.finds;
-  none_only = t.none_only;
-  at_end = t.at_end;
-  machine = λ more may. ap (λ x. x.machine) (i.at more may);
-  looks_left = λ more may. ap (λ x. x.looks) (i.at more may);
-}
-
-abbrev has-run : (form : Form) (input : Input) (n : ℕ) (old new : State) (k : Keyboard) (a : List ℕ) (over : Bool) (since : ℕ) (r r' : Option (List ℕ)) (looks : List (Option ℕ)) (steps : ℕ) (y : TerminalEnd)
-    → IsAt old looks over steps new since → IsTaken form input k a over r r' looks → steps ≤ n
-    → ((more : List (Option ℕ)) → MayFollow over more → Ends (new_terminal old (looks ++ more)) n steps y) → (y ≡ why.Keys → over ≡ true)
-    → IsRunOf form input n old new r r' (record { steps = steps; why = y })
-has-run form input n old new k a over since r r' looks steps y i t within ends none = record {
-  looks = looks;
-  is_over = over;
-  made = has-made form input old new k a over since r r' looks steps i t;
-  run = λ more may. record { within = within; goes_on = i.goes_on more may; ends = ends more may };
-  none_left = none;
-}
-
-abbrev is-cut : (form : Form) (input : Input) (n : ℕ) (old new : State) (k : Keyboard) (a : List ℕ) (over : Bool) (since : ℕ) (r r' : Option (List ℕ)) (looks : List (Option ℕ)) (steps : ℕ)
-    → IsAt old looks over steps new since → IsTaken form input k a over r r' looks → steps ≤ n → IsCut form input n old new r r'
-is-cut form input n old new k a over since r r' looks steps i t within = record {
-  looks = looks;
-  is_over = over;
-  steps = steps;
-  made = has-made form input old new k a over since r r' looks steps i t;
-  within = within;
-  goes_on = i.goes_on;
-}
-
--- the machine stands stopped at first
-pub stopped-run : (form : Form) (input : Input) (n : ℕ) (s : State) (r w : Option (List ℕ)) (p : List ℕ) → p ≡ [] → s.running ≡ false
-    → RunsInto form input n s s r r w w p (Ok (record { steps = 0; why = why.Halt }))
-stopped-run form input n s r w p none stopped = (
-  has-run form input n s s (fresh form) [] false 0 r r [] 0 why.Halt
-      (record { at = λ more _. later-none (new_terminal s more); goes_on = λ more _ m below. absurd (omega (arith, below)) })
-      (record { bytes = []; taken = consumes_none r; keyboard = refl; finds = finds-none input; none_only = λ before after is. absurd (none-empty before after is); at_end = λ h. absurd (true≢false (sym h)) })
-      (omega arith)
-      (λ more may.
-      ap (λ did. has_halted did) (did-none (new_terminal s more))
-      ∙ ap (λ (b : Bool). has_halted (if b then Ran None else Stopped)) stopped)
-      (λ is. absurd (no-keys why.Halt halt-keys is)),
-  λ more _.
-      subst (λ (q : List ℕ). Passes w w [] q (visible_characters (characters_of 0 (new_terminal s more)))) (sym none)
-      (subst (λ cs. Passes w w [] [] (visible_characters cs)) (sym (printed-none (new_terminal s more))) (passes-none w [])),
-)
-
--- all steps are made
-pub limit-run : (form : Form) (input : Input) (n : ℕ) (old new : State) (k : Keyboard) (a : List ℕ) (over : Bool) (since : ℕ) (r r' w w' : Option (List ℕ)) (p : List ℕ) (steps : ℕ)
-    → IsRunning form input old new k a over since r r' w w' p steps → steps ≡ n
-    → RunsInto form input n old new r r' w w' p (Ok (record { steps = n; why = why.Limit }))
-limit-run form input n old new k a over since r r' w w' p steps i e =
-    subst (λ (m : ℕ). RunsInto form input n old new r r' w w' p (Ok (record { steps = m; why = why.Limit }))) e (
-      has-run form input n old new k a over since r r' i.looks steps why.Limit i.is_at i.taken (omega (arith, e)) (λ more may. (e, i.runs more may))
-          (λ is. absurd (no-keys why.Limit limit-keys is)),
-      i.prints,
-    )
-
--- looks were made that found no key: the machine is where it was
-moved-at : (old s : State) (over over' : Bool) (since : ℕ) (looks found : List (Option ℕ)) (steps : ℕ) → IsAt old looks over steps s since → found ≡ []
-    → (over ≡ true → over' ≡ true) → IsAt old (looks ++ found) over' steps s since
-moved-at old s over over' since looks found steps i none goes =
-    subst (λ (l : List (Option ℕ)). IsAt old l over' steps s since) (sym (append-nil looks) ∙ ap (λ l. looks ++ l) (sym none)) (record {
-      at = λ more may. i.at more (λ h. may (goes h));
-      goes_on = λ more may. i.goes_on more (λ h. may (goes h));
-    })
-
-moved-prints : (old : State) (over over' : Bool) (looks found : List (Option ℕ)) (w w' w'' : Option (List ℕ)) (p p' : List ℕ) (steps : ℕ)
-    → Prints old looks over w w' p steps → found ≡ [] → (over ≡ true → over' ≡ true) → Passes w' w'' p p' [] → Prints old (looks ++ found) over' w w'' p' steps
-moved-prints old over over' looks found w w' w'' p p' steps prints none goes held =
-    subst (λ (l : List (Option ℕ)). Prints old l over' w w'' p' steps) (sym (append-nil looks) ∙ ap (λ l. looks ++ l) (sym none))
-    (λ more may.
-    let printed = visible_characters (characters_of steps (new_terminal old (looks ++ more))) in
-    subst (λ cs. Passes w w'' [] p' cs) (append-nil printed) (passes-more w w' w'' [] p p' printed [] (prints more (λ h. may (goes h))) held))
-
--- the keys have ended for a machine that waits for one
-pub starved-run : (form : Form) (input : Input) (n : ℕ) (old s s' : State) (k k' : Keyboard) (a a' : List ℕ) (over over' : Bool) (since since' : ℕ)
-    (r r' r'' w w' w'' : Option (List ℕ)) (p p' : List ℕ) (steps : ℕ)
-    → IsRunning form input old s k a over since r r' w w' p steps → steps < n → Attends input k k' a a' over over' s s' since since' r' r'' true
-    → Passes w' w'' p p' [] → RunsInto form input n old s' r r'' w w'' p' (Ok (record { steps = steps; why = why.Keys }))
-starved-run form input n old s s' k k' a a' over over' since since' r r' r'' w w' w'' p p' steps i below at held =
-    let none = (at.idle refl).1 in
-    subst (λ (x : State). RunsInto form input n old x r r'' w w'' p' (Ok (record { steps = steps; why = why.Keys }))) (sym (at.idle refl).0) (
-      has-run form input n old s k' a' over' since r r'' (i.looks ++ at.found) steps why.Keys
-          (moved-at old s over over' since i.looks at.found steps i.is_at none at.over)
-          (taken-next form input k k' a a' over over' s s' since since' r r' r'' i.looks true i.taken at)
-          (omega (arith, below))
-          (λ more may.
-          let may' = may-join over over' at.found more at.stays at.over may in (
-            below,
-            ap (λ t. runs_on (last_did steps t)) (joined old i.looks at.found more) ∙ i.runs (at.found ++ more) may',
-            ap (λ t. starves (later steps t)) (joined old i.looks at.found more)
-                ∙ ap (λ t. starves t) (i.is_at.at (at.found ++ more) may') ∙ at.starves_is more may,
-          ))
-          (λ _. at.none_left refl),
-      moved-prints old over over' i.looks at.found w w' w'' p p' steps i.prints none at.over held,
-    )
-
--- a step ends the run
-pub ended-run : (form : Form) (input : Input) (n : ℕ) (old s s' new : State) (k k' : Keyboard) (a a' : List ℕ) (over over' : Bool) (since since' : ℕ)
-    (r r' r'' w w' w'' w''' : Option (List ℕ)) (p p' p'' : List ℕ) (steps : ℕ) (did : Stepped) (y : TerminalEnd)
-    → IsRunning form input old s k a over since r r' w w' p steps → steps < n → Attends input k k' a a' over over' s s' since since' r' r'' false
-    → Passes w' w'' p p' [] → new ≡ (printing_step true s').0 → did ≡ (printing_step true s').1 → Passes w'' w''' p' p'' (visible_characters (character_of did)) → stop_of did ≡ Some y
-    → RunsInto form input n old new r r'' w w''' p'' (Ok (record { steps = steps + 1; why = y }))
-ended-run form input n old s s' new k k' a a' over over' since since' r r' r'' w w' w'' w''' p p' p'' steps did y i below at none new_is did_is some is = (
-  has-run form input n old new k' a' over' (since' + 1) r r'' (i.looks ++ at.found) (steps + 1) y
-      (step-at input old s s' new k k' a a' over over' since since' r' r'' i.looks steps false i.is_at i.runs at refl new_is)
-      (taken-next form input k k' a a' over over' s s' since since' r r' r'' i.looks false i.taken at)
-      (omega (arith, below))
-      (λ more may.
-      ends-by (new_terminal old ((i.looks ++ at.found) ++ more)) n (steps + 1) did y
-      (step-last input old s s' k k' a a' over over' since since' r' r'' i.looks steps false did i.is_at at did_is more may) is)
-      (λ keys. absurd (no-keys y (stop-keys did y is) keys)),
-  step-prints input old s s' k k' a a' over over' since since' r' r'' w w' w'' w''' p p' p'' i.looks steps false did i.is_at i.prints at none did_is some,
-)
-
--- the writer fails at what a step printed
-pub unwritten-run : (form : Form) (input : Input) (n : ℕ) (old s s' new : State) (k k' : Keyboard) (a a' : List ℕ) (over over' : Bool) (since since' : ℕ)
-    (r r' r'' w w' : Option (List ℕ)) (p : List ℕ) (steps : ℕ)
-    → IsRunning form input old s k a over since r r' w w' p steps → steps < n → Attends input k k' a a' over over' s s' since since' r' r'' false
-    → new ≡ (printing_step true s').0 → IsCut form input n old new r r''
-unwritten-run form input n old s s' new k k' a a' over over' since since' r r' r'' w w' p steps i below at new_is =
-    is-cut form input n old new k' a' over' (since' + 1) r r'' (i.looks ++ at.found) (steps + 1)
-    (step-at input old s s' new k k' a a' over over' since since' r' r'' i.looks steps false i.is_at i.runs at refl new_is)
-    (taken-next form input k k' a a' over over' s s' since since' r r' r'' i.looks false i.taken at)
-    (omega (arith, below))
-
--- the operator met a fault
-abbrev missed-cut : (form : Form) (input : Input) (n : ℕ) (old s : State) (k k' : Keyboard) (a a' : List ℕ) (over : Bool) (since : ℕ) (r r' r'' w w' : Option (List ℕ)) (p : List ℕ) (steps : ℕ)
-    → (i : IsRunning form input old s k a over since r r' w w' p steps) → steps ≤ n → Misses k k' a a' over r' r'' → IsCut form input n old s r r''
-missed-cut form input n old s k k' a a' over since r r' r'' w w' p steps i within m =
-    is-cut form input n old s k' a' over since r r'' (i.looks ++ []) steps
-    (moved-at old s over over since i.looks [] steps i.is_at refl (λ h. h))
-    (taken-more form input k k' a a' over over r r' r'' i.looks [] [] i.taken m.1 (finds-none input) tt (λ h. absurd (true≢false (sym h ∙ m.0))))
-    within
-
-missed-runs : (form : Form) (input : Input) (n : ℕ) (old s : State) (k k' : Keyboard) (a a' : List ℕ) (over : Bool) (since : ℕ) (r r' r'' w w' w'' : Option (List ℕ)) (p p' : List ℕ) (steps : ℕ)
-    (fault : TerminalFault) → IsRunning form input old s k a over since r r' w w' p steps → steps ≤ n → Misses k k' a a' over r' r''
-    → Holds {A = Bool} w' w'' p p' (Err fault) → RunsInto form input n old s r r'' w w'' p' (Err fault)
-missed-runs form input n old s k k' a a' over since r r' r'' w w' w'' p p' steps Reader i within m held = (
-  missed-cut form input n old s k k' a a' over since r r' r'' w w' p steps i within m,
-  moved-prints old over over i.looks [] w w' w'' p p' steps i.prints refl (λ h. h) held,
-)
-missed-runs form input n old s k k' a a' over since r r' r'' w w' w'' p p' steps Writer i within m held =
-    missed-cut form input n old s k k' a a' over since r r' r'' w w' p steps i within m
-
-pub missed-run : (form : Form) (input : Input) (n : ℕ) (old s new : State) (k k' : Keyboard) (a a' : List ℕ) (over : Bool) (since : ℕ) (r r' r'' w w' w'' : Option (List ℕ)) (p p' : List ℕ) (steps : ℕ)
-    (fault : TerminalFault) → IsRunning form input old s k a over since r r' w w' p steps → steps ≤ n → Misses k k' a a' over r' r''
-    → Holds {A = Bool} w' w'' p p' (Err fault) → new ≡ s → RunsInto form input n old new r r'' w w'' p' (Err fault)
-missed-run form input n old s new k k' a a' over since r r' r'' w w' w'' p p' steps fault i within m held is =
-    subst (λ (x : State). RunsInto form input n old x r r'' w w'' p' (Err fault)) (sym is)
-    (missed-runs form input n old s k k' a a' over since r r' r'' w w' w'' p p' steps fault i within m held)
-
--- ## Handing on what is on the paper at last
-
-flushed-prints : (old : State) (looks : List (Option ℕ)) (over : Bool) (w w' w'' : Option (List ℕ)) (p p' : List ℕ) (steps : ℕ) → Prints old looks over w w' p steps
-    → Passes w' w'' p p' [] → p' ≡ [] → WritesPrinted old looks over w w'' steps
-flushed-prints old looks over w w' w'' p p' steps prints held none more may =
-    let printed = visible_characters (characters_of steps (new_terminal old (looks ++ more))) in
-    passed w w'' p' printed (subst (λ cs. Passes w w'' [] p' cs) (append-nil printed) (passes-more w w' w'' [] p p' printed [] (prints more may) held)) none
-
-pub flushed-run : (form : Form) (input : Input) (n : ℕ) (old new : State) (r r' w w' w'' : Option (List ℕ)) (p p' : List ℕ) (ran : Result Ended TerminalFault)
-    → RunsInto form input n old new r r' w w' p ran → Passes w' w'' p p' [] → p' ≡ [] → RunsProgram form input n old new r r' w w'' ran
-flushed-run form input n old new r r' w w' w'' p p' (Ok ended) h held none =
-    (h.0, flushed-prints old h.0.looks h.0.is_over w w' w'' p p' ended.steps h.1 held none)
-flushed-run form input n old new r r' w w' w'' p p' (Err Reader) h held none =
-    (h.0, flushed-prints old h.0.looks h.0.is_over w w' w'' p p' h.0.steps h.1 held none)
-flushed-run form input n old new r r' w w' w'' p p' (Err Writer) h held none = h
-
-pub cut-run : (form : Form) (input : Input) (n : ℕ) (old new : State) (r r' w w' : Option (List ℕ)) (p : List ℕ) (ran : Result Ended TerminalFault)
-    → RunsInto form input n old new r r' w w' p ran → IsCut form input n old new r r'
-cut-run form input n old new r r' w w' p (Ok ended) h = record {
-  looks = h.0.looks;
-  is_over = h.0.is_over;
-  steps = ended.steps;
-  made = h.0.made;
-  within = (h.0.run [] (λ _. refl)).within;
-  goes_on = λ more may. (h.0.run more may).goes_on;
-}
-cut-run form input n old new r r' w w' p (Err Reader) h = h.0
-cut-run form input n old new r r' w w' p (Err Writer) h = h

@@ -1,5 +1,5 @@
 use Rattle.std.proofs.Common.{◌∙◌, sym}
-use Rattle.archive_survey.proofs.SoundLemmas.{first_told, sound_unfaulted, unfaulted_sound, sound_files}
+use Rattle.archive_survey.proofs.WholeLemmas.{first_told, sound_unfaulted, unfaulted_sound, sound_files}
 use Rattle.archive_survey.proofs.laws.told_faults.Goals as goal
 
 pub returns-clause-first : goal.returns-clause-first

@@ -1,4 +1,4 @@
-use Rattle.system_session.proofs.OtherLemmas.{others_follow}
+use Rattle.system_session.proofs.OtherReplyLemmas.{others_follow}
 use Rattle.system_session.proofs.SameLemmas.{squeezer_own, squeezer_turn}
 use Rattle.system_session.proofs.laws.interleavings.Goals as goal
 

@@ -1,5 +1,5 @@
 use Rattle.std.proofs.lemmas.Result.{err_from_is_err_and}
-use Rattle.terminal8.proofs.RunLemmas.{cut-run, flushed-run}
+use Rattle.terminal8.proofs.RunEndLemmas.{cut-run, flushed-run}
 use Rattle.terminal8.proofs.runs.run.Goals as goal
 
 pub returns-in_err-flush-in_default-clause-runs : goal.returns-in_err-flush-in_default-clause-runs

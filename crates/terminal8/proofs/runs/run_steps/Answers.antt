@@ -2,7 +2,8 @@ use Rattle.std.proofs.Common.{◌+◌, Bool, true, false, arith, sym, subst, ◌
 use Rattle.std.proofs.lemmas.Result.{err_from_is_err_and}
 use Rattle.terminal8.specs.RunSteps.{Attends}
 use Rattle.terminal8.specs.declared.inputs.Input.{Input}
-use Rattle.terminal8.proofs.RunLemmas.{begun, running-next, running-more, stopped-run, limit-run, starved-run, ended-run, unwritten-run, missed-run}
+use Rattle.terminal8.proofs.RunLemmas.{begun, running-next, running-more}
+use Rattle.terminal8.proofs.RunEndLemmas.{stopped-run, limit-run, starved-run, ended-run, unwritten-run, missed-run}
 use Rattle.terminal8.proofs.runs.run_steps.Goals as goal
 
 pub returns-then-not-is_running-clause-runs : goal.returns-then-not-is_running-clause-runs

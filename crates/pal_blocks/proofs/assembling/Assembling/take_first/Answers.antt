@@ -1,6 +1,7 @@
 use Rattle.std.proofs.Common.{◌∙◌, ap, sym, nat_lt, length, get_or, not}
 use Rattle.std.proofs.lemmas.Result.{err_from_is_err_and}
-use Rattle.pal_blocks.proofs.TurnLemmas.{first_on, first_not, first_next, first_turn, fresh_lexer}
+use Rattle.pal_blocks.proofs.TurnLemmas.{first_on, first_not, first_next}
+use Rattle.pal_blocks.proofs.LastBlockLemmas.{first_turn, fresh_lexer}
 use Rattle.pal_blocks.proofs.assembling.Assembling.take_first.Goals as goal
 
 pub returns-in_err-pass_block : goal.returns-in_err-pass_block
