@@ -1,5 +1,5 @@
 -- What may help where an image is refused (this project's profile).
-use Rattle.std.specs.Prelude.{ℕ, ◌*◌, ◌/◌, ◌%◌, nat_eq, nat_le, nat_lt, Bool, ◌&&◌, if◌then◌else◌, codes, decimal, Option, Some, None, List, ◌++◌}
+use Rattle.std.specs.Prelude.{ℕ, ◌*◌, ◌/◌, ◌%◌, nat_eq, nat_le, nat_lt, Bool, true, false, ◌&&◌, if◌then◌else◌, codes, decimal, Option, Some, None, List, ◌++◌}
 use Rattle.disk_layouts.specs.Disks.{guess_of}
 use Rattle.disk_layouts.specs.declared.layouts.Layout.{Layout}
 use Rattle.disk_layouts.specs.declared.layouts.Layout.TheVariants.{First, Second, Dectape}
@@ -86,3 +86,8 @@ kind_note kind.Unknown = None
 -- what is said of where a program starts if that isn't given, by the cell of its first word: nothing where both are 00200
 abbrev pub start_note : ℕ → ℕ → Option PlainNote
 start_note first start = if nat_eq start 0o200 then (if nat_eq first 0o200 then None else Some plain.StartAt200) else Some plain.StartAtFirst
+
+-- what is said of a start that is given, by whether the tape gives its cell a word
+abbrev pub given_note : Bool → Option PlainNote
+given_note true = None
+given_note false = Some plain.StartAtNoWord

@@ -25,6 +25,7 @@ plain_text plain.TextFile = codes "note: the frames are a text, and no BIN tape;
 plain_text plain.CoreImage = codes "note: the frames are a core image, and no BIN tape; get IMAGE NAME --bin makes a BIN tape of one on a volume\n"
 plain_text plain.StartAt200 = codes "note: no --start is given, and 00200 has a word: the program starts there\n"
 plain_text plain.StartAtFirst = codes "note: no --start is given, and 00200 has no word: the program starts at the first word of the tape\n"
+plain_text plain.StartAtNoWord = codes "note: the tape gives no word to the cell where the program starts\n"
 plain_text plain.FileNames = codes "note: a file's name is 1 to 6 letters, digits or escapes (_ and two octal digits), then nothing, or a dot and 1 or 2 more\n"
 plain_text plain.FurtherFaults = codes "note: these words have a fault too:\n"
 plain_text plain.MadeVolume = codes "note: with this change the file would be read as a volume: --dectape makes it all the same in a DECtape without more bytes\n"

@@ -148,6 +148,16 @@ pub fn start_note(first: Cell, start: Cell) -> Option<PlainNote>
     None
 }
 
+/// What is said of a start that is given, by whether the tape gives its cell a word.
+pub fn given_note(has_word: bool) -> Option<PlainNote>
+    ensures { result ≡ spec.given_note has_word }
+{
+    if has_word {
+        return None;
+    }
+    Some(PlainNote::StartAtNoWord)
+}
+
 /// What is said of a line of a script whose first word is no command.
 pub fn command_hint() -> &'static str
     ensures { result.now ≡ codes "a line begins with STORE, DELETE, DIRECT, ASSEMBLE, LOAD, SQUEEZE, TURN, FINISH, START, STEP, GO, RUN, KEY, DONE, SWITCHES, EXAMINE, DEPOSIT, REGISTERS, BREAK or PRINTED" }

@@ -14,7 +14,9 @@ mod streams;
 
 pub use contents::Content;
 pub use endings::Ending;
-pub use hints::{ImageNote, command_hint, image_note, kind_note, size_text, start_note, word_text};
+pub use hints::{
+    ImageNote, command_hint, given_note, image_note, kind_note, size_text, start_note, word_text,
+};
 pub use notes::{FileNote, NameNote, Note, PlainNote};
 pub use outcomes::{Outcome, Stream, outcome_of};
 pub use reasons::Reason;

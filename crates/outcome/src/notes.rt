@@ -43,6 +43,9 @@ pub enum PlainNote {
     /// It starts at its first word.
     StartAtFirst,
 
+    /// A program starts at a cell to which its tape gives no word.
+    StartAtNoWord,
+
     /// What names the files of a volume have.
     FileNames,
 
@@ -214,6 +217,8 @@ impl PlainNote {
                 "note: no --start is given, and 00200 has a word: the program starts there\n",
             PlainNote::StartAtFirst =>
                 "note: no --start is given, and 00200 has no word: the program starts at the first word of the tape\n",
+            PlainNote::StartAtNoWord =>
+                "note: the tape gives no word to the cell where the program starts\n",
             PlainNote::FileNames =>
                 "note: a file's name is 1 to 6 letters, digits or escapes (_ and two octal digits), then nothing, or a dot and 1 or 2 more\n",
             PlainNote::FurtherFaults => "note: these words have a fault too:\n",

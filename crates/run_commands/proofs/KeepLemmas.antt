@@ -13,7 +13,7 @@ use Rattle.terminal8.specs.declared.outcomes.TerminalFault.TheVariants.{Reader, 
 use Rattle.trace8.specs.declared.faults.TraceFault.{TraceFault}
 use Rattle.trace8.specs.declared.faults.TraceFault.TheVariants as trace
 use Rattle.program_reports.specs.Program.{program_line}
-use Rattle.tape_reports.specs.Starts.{first_cell, start_cell}
+use Rattle.tape_reports.specs.Starts.{first_cell, gives_word, start_cell}
 use Rattle.program_reports.specs.declared.programs.ProgramLine.TheVariants.{Start}
 use Rattle.run_commands.specs.RunLines.{run_line}
 use Rattle.run_commands.specs.declared.run_lines.RunLine.TheVariants.{Steps}
@@ -23,7 +23,7 @@ use Rattle.program_tasks.specs.declared.tasks.Cpu.TheVariants.{EightI, EightE}
 use Rattle.program_tasks.specs.declared.tasks.TeletypeForm.{TeletypeForm}
 use Rattle.program_tasks.specs.declared.tasks.TraceForm.{TraceForm}
 use Rattle.outcome.specs.Endings.{ending_of_tape}
-use Rattle.outcome.specs.Hints.{start_note}
+use Rattle.outcome.specs.Hints.{given_note, start_note}
 use Rattle.outcome.specs.declared.endings.Ending.{Ending}
 use Rattle.outcome.specs.declared.notes.PlainNote.{PlainNote}
 use Rattle.image_files.specs.Answers.{AreLines}
@@ -69,17 +69,17 @@ cell-keeps false start old result new p path = text-keeps (program_line (Start s
 start-keeps : (first start : ℕ) → KeepsFiles (TellsStart first start)
 start-keeps first start old result new (between, tells, p) path = cell-keeps (nat_eq start 0o200) start between result new p path ∙ tells-keeps path (start_note first start) old between tells
 
-starts-at-keeps : (given : Option ℕ) (first usual : ℕ) → KeepsFiles (StartsAt given first usual)
-starts-at-keeps (Some cell) first usual old result new p path = same path p.1
-starts-at-keeps None first usual old result new p path = then-keeps (TellsStart first usual) (λ it. Purely (IsJust usual)) (start-keeps first usual) (λ it. purely-keeps (IsJust usual)) old result new p path
+starts-at-keeps : (words : List (ℕ × ℕ)) (given : Option ℕ) (first usual : ℕ) → KeepsFiles (StartsAt words given first usual)
+starts-at-keeps words (Some cell) first usual old result new p path = tells-keeps path (given_note (gives_word words cell)) old new p.1
+starts-at-keeps words None first usual old result new p path = then-keeps (TellsStart first usual) (λ it. Purely (IsJust usual)) (start-keeps first usual) (λ it. purely-keeps (IsJust usual)) old result new p path
 
-starts-if-keeps : (given first usual : Option ℕ) → KeepsFiles (StartsIf given first usual)
-starts-if-keeps given (Some first) (Some usual) old result new p path = starts-at-keeps given first usual old result new p path
-starts-if-keeps given (Some first) None old result new p path = same path p.1
-starts-if-keeps given None usual old result new p path = same path p.1
+starts-if-keeps : (words : List (ℕ × ℕ)) (given first usual : Option ℕ) → KeepsFiles (StartsIf words given first usual)
+starts-if-keeps words given (Some first) (Some usual) old result new p path = starts-at-keeps words given first usual old result new p path
+starts-if-keeps words given (Some first) None old result new p path = same path p.1
+starts-if-keeps words given None usual old result new p path = same path p.1
 
 finds-keeps : (frames : List ℕ) (given : Option ℕ) (items : List Item) → IsTape frames items → KeepsFiles (FindsStart frames given)
-finds-keeps frames given items is old result new p path = starts-if-keeps given (first_cell (words_of items)) (start_cell (words_of items)) old result new (p items is) path
+finds-keeps frames given items is old result new p path = starts-if-keeps (words_of items) given (first_cell (words_of items)) (start_cell (words_of items)) old result new (p items is) path
 
 -- what the crates below know of their steps is handed in
 module _

@@ -8,10 +8,10 @@ use Rattle.core_load.specs.Core.{zeros}
 use Rattle.core_load.specs.Load.{IsLoaded, LoadsTape}
 use Rattle.hosts.specs.Event.{Event}
 use Rattle.refusals.specs.declared.faults.SessionFault.TheVariants.{Memory}
-use Rattle.tape_reports.specs.Starts.{first_cell, start_cell}
+use Rattle.tape_reports.specs.Starts.{first_cell, gives_word, start_cell}
 use Rattle.program_reports.specs.declared.programs.ProgramLine.TheVariants.{NothingToRun, Start}
 use Rattle.outcome.specs.Endings.{ending_of_tape}
-use Rattle.outcome.specs.Hints.{start_note}
+use Rattle.outcome.specs.Hints.{given_note, start_note}
 use Rattle.outcome.specs.declared.endings.Ending.{Ending}
 use Rattle.outcome.specs.declared.endings.Ending.TheVariants.{Line, Fault}
 use Rattle.image_files.specs.Notes.{Tells}
@@ -40,20 +40,20 @@ TellsCell false start old result new = TellsProgram (Start start) old result new
 abbrev pub TellsStart : ℕ → ℕ → List Event → Result (Unit {0}) Ending → List Event → Type 0
 TellsStart first start old result new = (between : List Event) × Tells (start_note first start) old between × TellsCell (nat_eq start 0o200) start between result new
 
--- a program starts at the cell that is given, or else where its tape alone says
-abbrev pub StartsAt : Option ℕ → ℕ → ℕ → List Event → Result ℕ Ending → List Event → Type 0
-StartsAt (Some cell) first usual = Purely (IsJust cell)
-StartsAt None first usual = Then (TellsStart first usual) (λ it. Purely (IsJust usual))
+-- a program starts at the cell that is given, with a note where its tape, of these words, gives that no word; or else where the tape alone says
+abbrev pub StartsAt : List (ℕ × ℕ) → Option ℕ → ℕ → ℕ → List Event → Result ℕ Ending → List Event → Type 0
+StartsAt words (Some cell) first usual old result new = IsJust cell result × Tells (given_note (gives_word words cell)) old new
+StartsAt words None first usual old result new = Then (TellsStart first usual) (λ it. Purely (IsJust usual)) old result new
 
 -- a tape that gives no word has nothing to run
-abbrev pub StartsIf : Option ℕ → Option ℕ → Option ℕ → List Event → Result ℕ Ending → List Event → Type 0
-StartsIf given (Some first) (Some usual) old result new = StartsAt given first usual old result new
-StartsIf given (Some first) None old result new = Purely (IsEnding (Line NothingToRun)) old result new
-StartsIf given None usual old result new = Purely (IsEnding (Line NothingToRun)) old result new
+abbrev pub StartsIf : List (ℕ × ℕ) → Option ℕ → Option ℕ → Option ℕ → List Event → Result ℕ Ending → List Event → Type 0
+StartsIf words given (Some first) (Some usual) old result new = StartsAt words given first usual old result new
+StartsIf words given (Some first) None old result new = Purely (IsEnding (Line NothingToRun)) old result new
+StartsIf words given None usual old result new = Purely (IsEnding (Line NothingToRun)) old result new
 
 -- where the program of a tape starts: if it isn't given at 00200, where that has a word, and else at the cell of the first word
 abbrev pub FindsStart : List ℕ → Option ℕ → List Event → Result ℕ Ending → List Event → Type 0
-FindsStart frames given old result new = (items : List Item) → IsTape frames items → StartsIf given (first_cell (words_of items)) (start_cell (words_of items)) old result new
+FindsStart frames given old result new = (items : List Item) → IsTape frames items → StartsIf (words_of items) given (first_cell (words_of items)) (start_cell (words_of items)) old result new
 
 -- ## The program
 

@@ -1,16 +1,18 @@
 //! The program of a tape in core, before a machine runs it.
-ghost use Rattle.std.specs.Prelude.{◌≡◌, nat_eq};
+ghost use Rattle.std.specs.Prelude.{◌≡◌, List, nat_eq};
+ghost use Rattle.bin_tape.specs.Items.{Item, words_of};
+ghost use Rattle.bin_tape.specs.Tape.{IsTape};
 ghost use Rattle.image_files.specs.Notes.{Tells};
 ghost use Rattle.run_commands.specs.CorePrograms.{FindsStart, LoadsCore, LoadsProgram, StartsAt, TellsCell, TellsStart};
 
 use crate::lines::tell_program;
 use core_load::{Core, load};
 use hosts::Host;
-use outcome::{Ending, PlainNote, start_note};
+use outcome::{Ending, PlainNote, given_note, start_note};
 use program_reports::ProgramLine;
 use std::alloc::Global;
 use tape_commands::refuse_frames;
-use tape_reports::{first_cell, start_cell};
+use tape_reports::{first_cell, gives_word, start_cell};
 use word12::{Cell, Word};
 
 /// A program in core.
@@ -70,21 +72,26 @@ fn find_start<H: Host>(
     let Some(usual) = start_cell(frames) else {
         return Err(Ending::Line(ProgramLine::NothingToRun));
     };
-    start_at(host, alloc, given, first, usual)
+    start_at(host, alloc, frames, given, first, usual)
 }
 
-/// The start that is given, or else the usual one, which is printed.
+/// The start that is given, with a note where the tape gives its cell no word. Or else the usual one, which is printed.
 fn start_at<H: Host>(
     host: &mut H,
     alloc: Global,
+    frames: &[u8],
     given: Option<Cell>,
     first: Cell,
     usual: Cell,
 ) -> Result<Cell, Ending>
-    ensures { StartsAt given first usual (H.history host.old) result (H.history host.new) }
+    ensures { (items : List Item) → IsTape frames.now items
+        → StartsAt (words_of items) given first usual (H.history host.old) result (H.history host.new) }
 {
     match given {
-        Some(cell) => Ok(cell),
+        Some(cell) => {
+            tell_if(host, given_note(gives_word(frames, cell)));
+            Ok(cell)
+        }
         None => {
             tell_start(host, alloc, first, usual)?;
             Ok(usual)

@@ -12,4 +12,4 @@ pub use given::given_cells;
 pub use listings::tape_lines;
 pub use rims::rim_output;
 pub use sources::{list_fault, pal8_fault, source_lines};
-pub use starts::{first_cell, start_cell};
+pub use starts::{first_cell, gives_word, start_cell};

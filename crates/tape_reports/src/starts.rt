@@ -24,8 +24,8 @@ pub fn start_cell(frames: &[u8]) -> Option<Cell>
     first_cell(frames)
 }
 
-/// Whether a tape gives a cell a word.
-fn gives_word(frames: &[u8], cell: Cell) -> bool
+/// Whether a tape gives a cell a word. Of frames that are no tape nothing is claimed.
+pub fn gives_word(frames: &[u8], cell: Cell) -> bool
     ensures { (items : List Item) → IsTape frames.now items
         → result ≡ gives_word (words_of items) cell }
 {

@@ -256,7 +256,7 @@ ends-by t n steps (Unassigned word) w last is = subst (λ x. Ends t n steps x) (
 ends-by t n steps Interrupted w last is = absurd (none-some w (sym is))
 ends-by t n steps (Ran printed) w last is = absurd (none-some w (sym is))
 
-is-keys : TerminalEnd → Bool
+pub is-keys : TerminalEnd → Bool
 is-keys why.Halt = false
 is-keys why.Unassigned = false
 is-keys why.Keys = true
