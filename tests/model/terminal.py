@@ -36,9 +36,11 @@ def start_cell(meaning: dict[int, int]) -> int:
 
 
 def start_note(sitting: Sitting, meaning: dict[int, int]) -> str:
-    """What is said of that start, unless the first word goes to 00200 too."""
+    """What is said of that start, unless the first word goes to 00200 too; or of one that is given and has no word."""
     start = start_cell(meaning)
-    if sitting.start >= 0 or next(iter(meaning)) == 0o200:
+    if sitting.start >= 0:
+        return "" if sitting.start in meaning else "note: the tape gives no word to the cell where the program starts\n"
+    if next(iter(meaning)) == 0o200:
         return ""
     if start == 0o200:
         return "note: no --start is given, and 00200 has a word: the program starts there\n"

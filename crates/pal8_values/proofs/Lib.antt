@@ -3,5 +3,4 @@ pub mod WordLemmas
 pub mod NearLemmas
 pub mod AskLemmas
 pub mod ReachLemmas
-pub mod LiteralLemmas
 pub mod GrowLemmas

@@ -32,7 +32,7 @@ clear_with : (m : ℕ) (is_indirect : Bool) → m % 0o400 ≡ 0 → bit_or m (in
 clear_with m false clear = ap (λ n. n % 0o400) (or_zero_r m) ∙ clear
 clear_with m true clear = or_mod m 0o400 8 ∙ ap (λ n. bit_or n 0) clear
 
-pub word_bits : (m : ℕ) (is_indirect : Bool) (offset : ℕ) → m % 0o400 ≡ 0 → offset < 0o400 → reference_word m is_indirect offset % 0o400 ≡ offset
+word_bits : (m : ℕ) (is_indirect : Bool) (offset : ℕ) → m % 0o400 ≡ 0 → offset < 0o400 → reference_word m is_indirect offset % 0o400 ≡ offset
 word_bits m is_indirect offset clear small = low_bits (bit_or m (indirect_bit is_indirect)) offset (clear_with m is_indirect clear) small
 
 offset_bits : (word offset : ℕ) → word % 0o400 ≡ offset → word % 0o200 ≡ offset % 0o200
@@ -42,7 +42,7 @@ page_bits : (word offset : ℕ) → word % 0o400 ≡ offset → word / 0o200 % 2
 page_bits word offset is = omega (arith, is)
 
 -- what a word with this offset reaches
-pub reached_by : (here word offset : ℕ) → word % 0o400 ≡ offset → reached_address here word ≡ (if nat_eq (offset / PAGE) 0 then 0 else here / PAGE * PAGE) + offset % PAGE
+reached_by : (here word offset : ℕ) → word % 0o400 ≡ offset → reached_address here word ≡ (if nat_eq (offset / PAGE) 0 then 0 else here / PAGE * PAGE) + offset % PAGE
 reached_by here word offset is =
     ap (λ n. (if nat_eq n 0 then 0 else here / PAGE * PAGE) + word % PAGE) (page_bits word offset is)
     ∙ ap (λ n. (if nat_eq (offset / PAGE) 0 then 0 else here / PAGE * PAGE) + n) (offset_bits word offset is)
@@ -52,7 +52,7 @@ the_offset other None = other
 the_offset other (Some offset) = offset
 
 -- the word of a reference reaches its address
-pub addressed : (here address m : ℕ) (is_indirect : Bool) (offset : ℕ) → m % 0o400 ≡ 0 → offset_of here address ≡ Some offset
+addressed : (here address m : ℕ) (is_indirect : Bool) (offset : ℕ) → m % 0o400 ≡ 0 → offset_of here address ≡ Some offset
     → reached_address here (reference_word m is_indirect offset) ≡ address
 addressed here address m is_indirect offset clear = by_zero (nat_lt address PAGE) refl
   where
@@ -112,7 +112,7 @@ addressed here address m is_indirect offset clear = by_zero (nat_lt address PAGE
     by_zero false large is = by_page (nat_eq (address / PAGE) (here / PAGE)) refl is
 
 -- an address on page zero, or on the page of a place, is within reach there
-pub in_reach : (here address : ℕ) → (address < PAGE) ⊎ (address / PAGE ≡ here / PAGE) → (offset : ℕ) × (offset_of here address ≡ Some offset)
+in_reach : (here address : ℕ) → (address < PAGE) ⊎ (address / PAGE ≡ here / PAGE) → (offset : ℕ) × (offset_of here address ≡ Some offset)
 in_reach here address (inl small) = (address, ap (λ test. if test then Some address else (if nat_eq (address / PAGE) (here / PAGE) then Some (address % PAGE + 0o200) else None)) (is_less address PAGE small))
   where
     is_less : (a b : ℕ) → a < b → nat_lt a b ≡ true
@@ -131,11 +131,11 @@ in_reach here address (inr near) = by_zero (nat_lt address PAGE) refl
     )
 
 -- the address of a literal's cell is within reach, and has twelve bits
-pub cell_in_reach : (pool : Pool) (here cell : ℕ) → (page_start pool here + cell % PAGE < PAGE) ⊎ ((page_start pool here + cell % PAGE) / PAGE ≡ here / PAGE)
+cell_in_reach : (pool : Pool) (here cell : ℕ) → (page_start pool here + cell % PAGE < PAGE) ⊎ ((page_start pool here + cell % PAGE) / PAGE ≡ here / PAGE)
 cell_in_reach Own here cell = inr (omega arith)
 cell_in_reach Zero here cell = inl (omega arith)
 
-pub cell_is_address : (pool : Pool) (here cell : ℕ) → here < 0o10000 → (0 + (page_start pool here + cell % PAGE)) % 0o10000 ≡ page_start pool here + cell % PAGE
+cell_is_address : (pool : Pool) (here cell : ℕ) → here < 0o10000 → (0 + (page_start pool here + cell % PAGE)) % 0o10000 ≡ page_start pool here + cell % PAGE
 cell_is_address Own here cell small = omega (arith, small)
 cell_is_address Zero here cell small = omega arith
 
@@ -148,7 +148,7 @@ pub record IsCell (spot : Spot) (pool : Pool) (value : ℕ) (asks punched : List
   pub asks_last : after ≡ ask_of spot pool value ∷ asks
   pub punched_last : after_punched ≡ with_punched spot.is_punched (ask_of spot pool value) punched
 
-abbrev pub GetsCell : Spot → Pool → ℕ → List Ask → List Ask → AskResult → Type 0
+abbrev GetsCell : Spot → Pool → ℕ → List Ask → List Ask → AskResult → Type 0
 GetsCell spot pool value asks punched (Err fault) = Unit {0}
 GetsCell spot pool value asks punched (Ok (address, after, after_punched)) = IsCell spot pool value asks punched address after after_punched
 
@@ -190,11 +190,11 @@ abbrev lifted : List Frame → Evaluation → Evaluation
 lifted outer e = record { sum = e.sum; frames = e.frames ++ outer; asks = e.asks; punched = e.punched }
 
 -- the same, with these values around it
-abbrev pub lift : List Frame → Result Evaluation ValueFault → Result Evaluation ValueFault
+abbrev lift : List Frame → Result Evaluation ValueFault → Result Evaluation ValueFault
 lift outer (Err fault) = Err fault
 lift outer (Ok e) = Ok (lifted outer e)
 
-abbrev pub HasDepth : ℕ → Result Evaluation ValueFault → Type 0
+abbrev HasDepth : ℕ → Result Evaluation ValueFault → Type 0
 HasDepth depth (Err fault) = Unit {0}
 HasDepth depth (Ok e) = length e.frames ≡ depth
 
@@ -306,7 +306,205 @@ module _ (known : Meanings) (spot : Spot) (outer : List Frame) where
             closed = more.closed;
           }
 
-pub steps_after : (known : Meanings) (spot : Spot) (first second : List Step) (r : Result Evaluation ValueFault)
+steps_after : (known : Meanings) (spot : Spot) (first second : List Step) (r : Result Evaluation ValueFault)
     → with_steps known spot (first ++ second) r ≡ with_steps known spot second (with_steps known spot first r)
 steps_after known spot [] second r = refl
 steps_after known spot (s ∷ first) second r = steps_after known spot first second (with_step_if known spot s r)
+
+-- ## Literals
+
+none_is : (offset : Option ℕ) (n : ℕ) → offset ≡ None → offset ≡ Some n → ⊥
+none_is (Some m) n none is = absurd cc
+none_is None n none is = absurd cc
+
+abbrev the_word : {A : Type 0} → A → Result A ValueFault → A
+the_word other (Err fault) = other
+the_word other (Ok it) = it
+
+-- an answer is this one, part by part
+pub record IsAnswer (r : ℕ × List Ask × List Ask) (word : ℕ) (after after_punched : List Ask) : Type 0 where
+  pub word_is : r.0 ≡ word
+  pub asks_are : r.1 ≡ after
+  pub punched_are : r.2 ≡ after_punched
+
+abbrev answered : ℕ → List Ask → List Ask → AskResult
+answered word asks punched = Ok (word, asks, punched)
+
+is_answer : (a word : ℕ) (b after c after_punched : List Ask) → answered a b c ≡ answered word after after_punched → IsAnswer (a, b, c) word after after_punched
+is_answer a word b after c after_punched is =
+    let same = ap (the_word (a, b, c)) is in record { word_is = ap (λ r. r.0) same; asks_are = ap (λ r. r.1) same; punched_are = ap (λ r. r.2) same }
+
+module _ (known : Meanings) (spot : Spot) (operation : ℕ) (is_indirect : Bool) (pool : Pool) (inside : List Step) (asks punched : List Ask)
+    (word : ℕ) (after after_punched : List Ask) (clear : operation % 0o400 ≡ 0) (here_small : spot.here < 0o10000) where
+  abbrev Wanted : Type 0
+  Wanted = ReachesLiteral known spot pool inside asks punched word after after_punched
+
+  abbrev whole : AskResult
+  whole = Ok (word, after, after_punched)
+
+  -- the operation, before its address
+  abbrev begun : Sum
+  begun = record { is_reference = true; operation = operation; is_indirect = is_indirect; total = 0; sign = empty.sign }
+
+  abbrev around : Frame
+  around = record { pool = pool; sum = begun }
+
+  abbrev start : List Frame → Evaluation
+  start frames = record { sum = empty; frames = frames; asks = asks; punched = punched }
+
+  abbrev through : Bool
+  through = is_through record begun { total = 0 }
+
+  by_offset : (value : ℕ) (asked asked_punched : List Ask) (address : ℕ) (found found_punched : List Ask)
+      → word_value known spot inside asks punched ≡ Ok (value, asked, asked_punched) → IsCell spot pool value asked asked_punched address found found_punched
+      → (total : ℕ) → total ≡ address → (offset : Option ℕ) → offset_of spot.here total ≡ offset → (reach : (n : ℕ) × (offset ≡ Some n))
+      → word_of_reference spot operation (is_through record begun { total = total }) offset total found found_punched ≡ whole → Wanted
+  by_offset value asked asked_punched address found found_punched is_value cell total total_is (Some offset) offset_is reach is =
+      let answer = is_answer (reference_word operation (is_through record begun { total = total }) offset) word found after found_punched after_punched is in
+      record {
+        value = value;
+        asked = asked;
+        asked_punched = asked_punched;
+        is_value = is_value;
+        asks_last = sym answer.asks_are ∙ cell.asks_last;
+        punched_last = sym answer.punched_are ∙ cell.punched_last;
+        reaches = record {
+          at_offset =
+              ap (reached_address spot.here) (sym answer.word_is)
+              ∙ addressed spot.here total operation (is_through record begun { total = total }) offset clear offset_is
+              ∙ total_is ∙ cell.address_is ∙ ap (λ l. page_start pool spot.here + cell_in l (ask_of spot pool value) % PAGE) answer.asks_are;
+          on_page = ap (λ l. cell_in l (ask_of spot pool value) / PAGE) (sym answer.asks_are) ∙ cell.on_page;
+        };
+      }
+  by_offset value asked asked_punched address found found_punched is_value cell total total_is None offset_is reach is = absurd (none_is None reach.0 refl reach.1)
+
+  by_cell : (value : ℕ) (asked asked_punched : List Ask) → word_value known spot inside asks punched ≡ Ok (value, asked, asked_punched)
+      → (r : AskResult) → GetsCell spot pool value asked asked_punched r → word_in spot (with_cell around [] r) ≡ whole → Wanted
+  by_cell value asked asked_punched is_value (Err fault) gets is = absurd cc
+  by_cell value asked asked_punched is_value (Ok (address, found, found_punched)) gets is =
+      let total_is : (0 + address) % 0o10000 ≡ address =
+      ap (λ n. (0 + n) % 0o10000) gets.address_is
+      ∙ cell_is_address pool spot.here (cell_in found (ask_of spot pool value)) here_small ∙ sym gets.address_is in
+      let reach = in_reach spot.here ((0 + address) % 0o10000) (near address (cell_in found (ask_of spot pool value)) total_is gets.address_is) in
+      by_offset value asked asked_punched address found found_punched is_value gets ((0 + address) % 0o10000) total_is
+      (offset_of spot.here ((0 + address) % 0o10000)) refl reach is
+    where
+      near : (address cell : ℕ) → (0 + address) % 0o10000 ≡ address → address ≡ page_start pool spot.here + cell % PAGE
+          → ((0 + address) % 0o10000 < PAGE) ⊎ ((0 + address) % 0o10000 / PAGE ≡ spot.here / PAGE)
+      near address cell total_is address_is =
+          subst (λ n. (n < PAGE) ⊎ (n / PAGE ≡ spot.here / PAGE)) (sym (total_is ∙ address_is)) (cell_in_reach pool spot.here cell)
+
+  by_value : (r : AskResult) → word_value known spot inside asks punched ≡ r → word_in spot (with_literal spot around [] r) ≡ whole → Wanted
+  by_value (Err fault) is_value is = absurd cc
+  by_value (Ok (value, asked, asked_punched)) is_value is =
+      by_cell value asked asked_punched is_value (with_ask spot pool value asked asked_punched) (gets_cell spot pool value asked asked_punched) is
+
+  by_inside : (r : Result Evaluation ValueFault) → with_steps known spot inside (Ok (start [])) ≡ r → HasDepth 0 r
+      → word_in spot (with_step_if known spot step.Close (lift (around ∷ []) r)) ≡ whole → Wanted
+  by_inside (Err fault) inside_is closed is = absurd cc
+  by_inside (Ok e) inside_is closed is = by_frames e.frames refl closed is
+    where
+      by_frames : (frames : List Frame) → e.frames ≡ frames → length frames ≡ 0
+          → word_in spot (with_close spot (frames ++ (around ∷ [])) e.sum e.asks e.punched) ≡ whole → Wanted
+      by_frames [] frames_are none is = by_value (value_of spot e.sum e.asks e.punched) (ap (word_in spot) inside_is) is
+      by_frames (frame ∷ others) frames_are none is = absurd cc
+
+  from_start : closes_all inside (Some 0) ≡ true
+      → word_in spot (with_steps known spot (inside ++ (step.Close ∷ [])) (Ok (start (around ∷ [])))) ≡ whole → Wanted
+  from_start closes is =
+      let parts = all_within known spot (around ∷ []) inside 0 (Ok (start [])) refl closes in
+      by_inside (with_steps known spot inside (Ok (start []))) refl parts.closed
+      (sym (ap (word_in spot) (steps_after known spot inside (step.Close ∷ []) (Ok (start (around ∷ [])))
+      ∙ ap (with_step_if known spot step.Close) parts.same)) ∙ is)
+
+pub literals_are_reached : LiteralsAreReached
+literals_are_reached known spot operation false pool inside asks punched word after after_punched clear small closes is =
+    from_start known spot operation false pool inside asks punched word after after_punched clear small closes is
+literals_are_reached known spot operation true pool inside asks punched word after after_punched clear small closes is =
+    from_start known spot operation true pool inside asks punched word after after_punched clear small closes is
+
+-- ## Links
+
+-- an offset with the bit of `I` has that bit
+link_bit : (m offset : ℕ) → m % 0o400 ≡ 0 → 0o200 ≤ offset → offset < 0o400 → reference_word m true offset / 0o400 % 2 ≡ 1
+link_bit m offset clear above below = by_bits (bit_or m 0o400) (or_mod m 0o400 9 ∙ by_low (m % 0o1000) (low_is m clear))
+  where
+    low_is : (m : ℕ) → m % 0o400 ≡ 0 → (m % 0o1000 ≡ 0) ⊎ (m % 0o1000 ≡ 0o400)
+    low_is m clear = grind (arith, clear)
+
+    by_low : (n : ℕ) → (n ≡ 0) ⊎ (n ≡ 0o400) → bit_or n 0o400 ≡ 0o400
+    by_low n (inl is) = ap (λ k. bit_or k 0o400) is
+    by_low n (inr is) = ap (λ k. bit_or k 0o400) is
+
+    bit_of : (n : ℕ) → n % 0o1000 ≡ 0o400 + offset → n / 0o400 % 2 ≡ 1
+    bit_of n is = omega (arith, is, above, below)
+
+    same_offset : (offset : ℕ) → offset < 0o400 → offset % 0o1000 ≡ offset
+    same_offset offset below = omega (arith, below)
+
+    by_bits : (n : ℕ) → n % 0o1000 ≡ 0o400 → bit_or n offset / 0o400 % 2 ≡ 1
+    by_bits n is =
+        bit_of (bit_or n offset) (or_mod n offset 9 ∙ ap (λ k. bit_or k (offset % 0o1000)) is ∙ ap (bit_or 0o400) (same_offset offset below) ∙ numeral_or 0o377 offset refl below)
+
+module _ (spot : Spot) (operation address : ℕ) (asks punched : List Ask) (word : ℕ) (after after_punched : List Ask) (clear : operation % 0o400 ≡ 0) where
+  abbrev link_whole : AskResult
+  link_whole = Ok (word, after, after_punched)
+
+  from_cell : (r : AskResult) → GetsCell spot Own address asks punched r → with_link operation r ≡ link_whole
+      → ReachesLink spot address asks punched word after after_punched
+  from_cell (Err fault) gets is = absurd cc
+  from_cell (Ok (cell, found, found_punched)) gets is =
+      let answer = is_answer (reference_word operation true (cell % PAGE + 0o200)) word found after found_punched after_punched is in
+      record {
+        asks_last = sym answer.asks_are ∙ gets.asks_last;
+        punched_last = sym answer.punched_are ∙ gets.punched_last;
+        is_indirect = ap (λ n. n / 0o400 % 2) (sym answer.word_is) ∙ link_bit operation (cell % PAGE + 0o200) clear (above cell) (below cell);
+        reaches = record {
+          at_offset =
+              ap (reached_address spot.here) (sym answer.word_is)
+              ∙ reached_by spot.here (reference_word operation true (cell % PAGE + 0o200)) (cell % PAGE + 0o200)
+              (word_bits operation true (cell % PAGE + 0o200) clear (below cell))
+              ∙ at_offset spot.here cell (cell_in found (ask_of spot Own address)) gets.address_is
+              ∙ ap (λ l. page_start Own spot.here + cell_in l (ask_of spot Own address) % PAGE) answer.asks_are;
+          on_page = ap (λ l. cell_in l (ask_of spot Own address) / PAGE) (sym answer.asks_are) ∙ gets.on_page;
+        };
+      }
+    where
+      above : (cell : ℕ) → 0o200 ≤ cell % PAGE + 0o200
+      above cell = omega arith
+
+      below : (cell : ℕ) → cell % PAGE + 0o200 < 0o400
+      below cell = omega arith
+
+      one : (cell : ℕ) → (cell % PAGE + 0o200) / PAGE ≡ 1
+      one cell = omega arith
+
+      offset_is : (here address cell : ℕ) → address ≡ here / PAGE * PAGE + cell % PAGE → (address % PAGE + 0o200) % PAGE ≡ cell % PAGE
+      offset_is here address cell is = omega (arith, is)
+
+      at_offset : (here address cell : ℕ) → address ≡ page_start Own here + cell % PAGE
+          → (if nat_eq ((address % PAGE + 0o200) / PAGE) 0 then 0 else here / PAGE * PAGE) + (address % PAGE + 0o200) % PAGE ≡ page_start Own here + cell % PAGE
+      at_offset here address cell is =
+          ap (λ n. (if nat_eq n 0 then 0 else here / PAGE * PAGE) + (address % PAGE + 0o200) % PAGE) (one address)
+          ∙ ap (λ n. here / PAGE * PAGE + n) (offset_is here address cell is)
+
+  from_link : (may_link : Bool) → with_link_if spot operation address may_link asks punched ≡ link_whole → ReachesLink spot address asks punched word after after_punched
+  from_link false is = absurd cc
+  from_link true is = from_cell (with_ask spot Own address asks punched) (gets_cell spot Own address asks punched) is
+
+  from_offset : (is_indirect : Bool) (offset : Option ℕ) → offset ≡ None → word_of_reference spot operation is_indirect offset address asks punched ≡ link_whole
+      → ReachesLink spot address asks punched word after after_punched
+  from_offset is_indirect (Some offset) none is = absurd cc
+  from_offset true None none is = absurd cc
+  from_offset false None none is = from_link spot.may_link is
+
+from_reference : (spot : Spot) (e : Evaluation) (word : ℕ) (after after_punched : List Ask) → e.sum.operation % 0o400 ≡ 0 → offset_of spot.here e.sum.total ≡ None
+    → (is_reference : Bool) → is_reference ≡ true → value_by spot is_reference e.sum e.asks e.punched ≡ Ok (word, after, after_punched)
+    → ReachesLink spot e.sum.total e.asks e.punched word after after_punched
+from_reference spot e word after after_punched clear none true same is =
+    from_offset spot e.sum.operation e.sum.total e.asks e.punched word after after_punched clear (is_through e.sum) (offset_of spot.here e.sum.total) none is
+from_reference spot e word after after_punched clear none false same is = absurd cc
+
+pub links_are_reached : LinksAreReached
+links_are_reached known spot steps asks punched e word after after_punched evaluates is_reference clear none is =
+    from_reference spot e word after after_punched clear none e.sum.is_reference is_reference (ap (word_in spot) (sym evaluates) ∙ is)
