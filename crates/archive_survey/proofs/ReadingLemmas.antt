@@ -1,11 +1,10 @@
 -- Entries and segments as they are read, one by one.
-use Rattle.std.proofs.Common.{◌≡◌, ◌∙◌, ℕ, zero, suc, ◌+◌, ◌-◌, ◌<◌, ◌≤◌, ◌≢◌, Bool, true, false, ◌&&◌, ltb, List, [], ◌∷◌, ◌++◌, length, take, get_or, set, Some, None, refl, sym, ap, arith, inl, inr, append_assoc, append-nil, get_or-set_same, get_or-set_other, slice_get, Result, Ok, Err, OnOk}
+use Rattle.std.proofs.Common.{◌≡◌, ◌∙◌, ℕ, zero, suc, ◌+◌, ◌-◌, ◌<◌, ◌≤◌, ◌≢◌, Bool, true, false, ◌&&◌, ltb, List, [], ◌∷◌, ◌++◌, length, get_or, set, Some, None, refl, sym, ap, arith, inl, inr, append_assoc, append-nil, get_or-set_same, get_or-set_other, slice_get, Result, Ok, Err, OnOk}
 use Rattle.std.proofs.lemmas.Bool.{lt-ltb, le-ltb}
 use Rattle.std.proofs.lemmas.Bool.Decides.{eqb_tells}
 use Rattle.std.proofs.lemmas.Option.{get_or_from_slice_get}
 use Rattle.std.proofs.lemmas.Grind.{get_or_default_zero}
 use Rattle.os8_dir.specs.declared.faults.DirFault.TheVariants.{BadLink, EntryPastSegment}
-use Rattle.os8_dir.specs.Names.{with_end_zeros}
 use Rattle.os8_dir.specs.Entries.{contains}
 use Rattle.os8_dir.specs.Reading.{block, word, entry_at, is_unread}
 use Rattle.archive_survey.specs.declared.parts.Part.{Part}
@@ -123,10 +122,3 @@ pub later_done : (left info from end link : ℕ) (blocks : List (List ℕ)) (rea
     → out ++ later_segments left blocks info read from end link ≡ all → out ≡ all
 later_done left info from end link blocks read out all none before =
     sym (append-nil out) ∙ ap (λ l. out ++ l) (sym (later_end left info from end blocks read)) ∙ (rw none at before)
-
--- one information word more
-pub set-padded : (n k : ℕ) (words : List ℕ) → k < n → k < length words → set (with_end_zeros n (take k words)) k (get_or words k 0) ≡ with_end_zeros n (take (suc k) words)
-set-padded zero k words low inside = absurd (omega arith)
-set-padded (suc n) k [] low inside = absurd (omega arith)
-set-padded (suc n) zero (w ∷ ws) low inside = refl
-set-padded (suc n) (suc k) (w ∷ ws) low inside = ap (λ xs. w ∷ xs) (set-padded n k ws (omega arith) (omega arith))

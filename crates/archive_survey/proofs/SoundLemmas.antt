@@ -4,13 +4,16 @@ use Rattle.std.proofs.lemmas.Bool.{lt-ltb, le-ltb, le-leb, lt-leb, eqb-true, eq-
 use Rattle.os8_dir.specs.declared.entries.DirEntry.{DirEntry}
 use Rattle.os8_dir.specs.declared.entries.DirEntry.TheVariants as entry
 use Rattle.os8_dir.specs.declared.faults.DirFault.{DirFault}
-use Rattle.os8_dir.specs.declared.faults.DirFault.TheVariants.{BadLink, BadCount, EntryPastSegment, PastVolume, SameName, WrongFirstBlock, MixedInfo}
+use Rattle.os8_dir.specs.declared.faults.DirFault.TheVariants.{BadLink, BadCount, EntryPastSegment, WrongFirstBlock, MixedInfo}
 use Rattle.os8_dir.specs.declared.names.Name.{Name}
 use Rattle.word12.specs.declared.words.Word.{Word}
 use Rattle.os8_dir.specs.Names.{name_of, with_end_zeros}
 use Rattle.os8_dir.specs.Entries.{DirectoryState, minus, contains, size_of, total, end_of, names_of, before, tidy}
 use Rattle.os8_dir.specs.Found.{FilePlace, files_at}
 use Rattle.os8_dir.specs.Reading.{◌>>=◌, needs, word, block, empty_at, file_at, entry_at, is_new, with_entry, with_entries, with_segment, is_unread, with_links, is_first, head_of, directory_of, Sound}
+use Rattle.os8_dir.proofs.ReadingLemmas.{with_entry-past, with_entry-same}
+use Rattle.os8_dir.proofs.TidyLemmas.{total-tidy}
+use Rattle.os8_dir.proofs.LawLemmas.{names_of-tidy}
 use Rattle.archive_survey.specs.declared.parts.Part.{Part}
 use Rattle.archive_survey.specs.declared.parts.Part.TheVariants.{Segment, Fault, File, Empty}
 use Rattle.archive_survey.specs.Findings.{Finding, Clean, Unsound, part_of, part_at, blocks_of, blocks_in, with_those, entries_at, info_of, count_of, first_of, segment_entries, segment_end, unless, later_faults, later_segment, later_segments, parts, finding_of, names_after, findings_of, findings, files_found}
@@ -29,10 +32,6 @@ total-before (entry.Empty (suc size)) [] = refl
 total-before (entry.Empty size) (entry.Empty more ∷ es) = omega arith
 total-before (entry.Empty zero) (entry.File name info more ∷ es) = omega arith
 total-before (entry.Empty (suc size)) (entry.File name info more ∷ es) = refl
-
-total-tidy : (es : List DirEntry) → total (tidy es) ≡ total es
-total-tidy [] = refl
-total-tidy (e ∷ es) = total-before e (tidy es) ∙ ap (λ n. size_of e + n) (total-tidy es)
 
 total-more : (es : List DirEntry) (e : DirEntry) → total (es ++ e ∷ []) ≡ total es + size_of e
 total-more [] e = omega arith
@@ -57,10 +56,6 @@ names_of-more : (e : DirEntry) (xs ys : List DirEntry) → names_of xs ≡ names
 names_of-more (entry.File name info zero) xs ys same = same
 names_of-more (entry.File name info (suc size)) xs ys same = ap (λ ns. name ∷ ns) same
 names_of-more (entry.Empty size) xs ys same = same
-
-names_of-tidy : (es : List DirEntry) → names_of (tidy es) ≡ names_of es
-names_of-tidy [] = refl
-names_of-tidy (e ∷ es) = names_of-before e (tidy es) ∙ names_of-more e (tidy es) es (names_of-tidy es)
 
 names-more : (es : List DirEntry) (e : DirEntry) → names_of (tidy (es ++ e ∷ [])) ≡ names_of es ++ names_of (e ∷ [])
 names-more es e = names_of-tidy (es ++ e ∷ []) ∙ names_of-append es (e ∷ [])
@@ -173,14 +168,6 @@ follow_on volume d xs ys (Ok more) next f n = follow_after volume d more xs ys (
 follow_on volume d xs ys (Err fault) next f n = λ rest. rw (append_assoc xs ys rest) (f (ys ++ rest))
 
 -- ## One entry
-
-with_entry-past : (volume : ℕ) (d : DirectoryState) (e : DirEntry) → volume < end_of d + size_of e → with_entry volume d e ≡ Err PastVolume
-unfolding with_entry
-with_entry-past volume d e past = rw (lt-ltb volume (end_of d + size_of e) past) refl
-
-with_entry-same : (volume : ℕ) (d : DirectoryState) (e : DirEntry) → end_of d + size_of e ≤ volume → is_new (names_of d.entries) e ≡ false → with_entry volume d e ≡ Err SameName
-unfolding with_entry
-with_entry-same volume d e inside old = rw (le-ltb volume (end_of d + size_of e) inside, old) refl
 
 with_entry-more : (volume : ℕ) (d : DirectoryState) (e : DirEntry) → end_of d + size_of e ≤ volume → is_new (names_of d.entries) e ≡ true
     → with_entry volume d e ≡ Ok (record d { entries = tidy (d.entries ++ e ∷ []) })

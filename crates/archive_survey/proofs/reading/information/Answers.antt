@@ -1,6 +1,6 @@
 use Rattle.std.proofs.Common.{◌≡◌, ◌<◌, length, get_or, arith, add-one}
 use Rattle.std.proofs.lemmas.List.{get_or_read}
-use Rattle.archive_survey.proofs.ReadingLemmas.{set-padded}
+use Rattle.os8_dir.proofs.ReadingLemmas.{set-padded}
 use Rattle.archive_survey.proofs.reading.information.Goals as goal
 
 pub loop-k-preserved : goal.loop-k-preserved
