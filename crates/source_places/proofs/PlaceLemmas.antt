@@ -4,12 +4,16 @@ use Rattle.std.proofs.Math.Seq.{take-suc}
 use Rattle.pal_lex.specs.Text.{text_from, text_of}
 use Rattle.source_places.specs.Places.{next_line, next_column}
 
-grown : (text bytes : List ℕ) (b : ℕ) → text_from text (bytes ++ b ∷ []) ≡ b ∷ text_from text bytes
+pub grown : (text bytes : List ℕ) (b : ℕ) → text_from text (bytes ++ b ∷ []) ≡ b ∷ text_from text bytes
 grown text [] b = refl
 grown text (x ∷ bytes) b = grown (x ∷ text) bytes b
 
+pub length_from : (bytes text : List ℕ) → length (text_from text bytes) ≡ length bytes + length text
+length_from [] text = omega arith
+length_from (b ∷ bytes) text = length_from bytes (b ∷ text) ∙ omega arith
+
 -- a byte more
-next_byte : (bytes : List ℕ) (n b : ℕ) → n < length bytes → b ≡ get_or bytes n 0 → text_of (take (n + 1) bytes) ≡ b ∷ text_of (take n bytes)
+pub next_byte : (bytes : List ℕ) (n b : ℕ) → n < length bytes → b ≡ get_or bytes n 0 → text_of (take (n + 1) bytes) ≡ b ∷ text_of (take n bytes)
 next_byte bytes n b inside is =
     let next : n + 1 ≡ suc n = omega arith in
     ap (λ k. text_of (take k bytes)) next ∙ ap text_of (take-suc bytes n 0 inside) ∙ grown [] (take n bytes) (get_or bytes n 0)
