@@ -3,9 +3,9 @@ mod TapeLemmas
 mod GetLemmas
 mod CheckLemmas
 mod FirstBlockLemmas
-mod LawLemmas
+pub mod LawLemmas
 mod AskLemmas
-mod AgainLemmas
+pub mod AgainLemmas
 mod ExtentLemmas
 mod HostTextLemmas
 mod SegmentLemmas
@@ -19,3 +19,5 @@ mod BlockLemmas
 mod LongLemmas
 mod PlainLemmas
 mod CopyLemmas
+pub mod ListLemmas
+pub mod RunLemmas

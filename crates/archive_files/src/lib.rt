@@ -23,6 +23,7 @@ mod renaming;
 mod squeezing;
 mod tapes;
 mod texts;
+mod words;
 
 pub use asking::Asked;
 pub use checking::check;
