@@ -17,6 +17,7 @@ use Rattle.archive_files.specs.Asking.{AtBlock, AreAsked, asked_name}
 use Rattle.archive_files.specs.Copying.{HasCopied}
 use Rattle.archive_files.specs.declared.faults.ArchiveFault.{ArchiveFault}
 use Rattle.archive_files.specs.declared.putting.NewImage.{NewImage}
+use Rattle.archive_files.proofs.LawLemmas.{get-with, one_volume, some_eq}
 use Rattle.archive_many.specs.Copying.{AreCopied, CopiesAll, IsNotCopied, KeepsOut}
 use Rattle.archive_many.specs.CopySteps.{CopiesEach, CopiesNext}
 use Rattle.archive_many.specs.Laws.{copy_or, copy_with}
@@ -28,10 +29,6 @@ use Rattle.archive_many.specs.declared.opened.VolumeFile.{VolumeFile}
 use Rattle.archive_many.specs.declared.wishes.Wish.{Wish}
 use Rattle.archive_many.proofs.FileLemmas.{FoundSo, SoundSo}
 use Rattle.archive_many.proofs.GoneLemmas.{chosen-there, none-there, read-so}
-use Rattle.archive_many.proofs.LawLemmas.{get-with, one-volume}
-
-some-eq : {X : Type 0} (x y : X) → Some x ≡ Some y → x ≡ y
-some-eq x y same = cc
 
 -- ## All or none
 
@@ -106,10 +103,10 @@ each-copied law from to new source old (f ∷ files) has_source has_old copied =
     let one = copied.1 in
     let put = one.put.put in
     let held = one.file in
-    let before = one-volume law to old one.put.before.blocks has_old one.put.mounted.opened.is_image in
-    let whence = one-volume law from source one.source.blocks has_source one.source.opened.is_image in
+    let before = one_volume law to old one.put.before.blocks has_old one.put.mounted.opened.is_image in
+    let whence = one_volume law from source one.source.blocks has_source one.source.opened.is_image in
     let number = one.source.number in
-    let name : number ≡ copied.0.name = some-eq number copied.0.name one.put.named in
+    let name : number ≡ copied.0.name = some_eq number copied.0.name one.put.named in
     let asked : asked_name source (AtBlock f.place) ≡ Some number = ap (λ (b : List (List ℕ)). asked_name b (AtBlock f.place)) (sym whence) ∙ one.source.named in
     let there : get (files_of source) number ≡ Some held = ap (λ (b : List (List ℕ)). get (files_of b) number) (sym whence) ∙ one.source.there in
     let info : info_of one.put.after.blocks ≡ info_of old = put.info ∙ ap info_of before in

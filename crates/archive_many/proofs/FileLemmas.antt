@@ -1,10 +1,6 @@
--- The files of a directory, and the words of runs of blocks.
-use Rattle.std.proofs.Common.{◌≡◌, ◌≢◌, ℕ, zero, suc, ◌+◌, ◌*◌, ◌/◌, ◌%◌, ◌<◌, ◌≤◌, ◌∙◌, Option, Some, None, Ok, Err, List, [], ◌∷◌, ◌++◌, map, take, drop, length, get_or, refl, sym, ap, arith, append_assoc, add-one, length-drop}
-use Rattle.std.specs.Prelude.{slice_get}
+-- The files of a directory.
+use Rattle.std.proofs.Common.{◌≡◌, ◌≢◌, ℕ, zero, suc, ◌+◌, ◌*◌, ◌/◌, ◌%◌, ◌<◌, ◌≤◌, ◌∙◌, Option, Some, None, Ok, Err, List, [], ◌∷◌, ◌++◌, map, take, length, refl, sym, ap, arith}
 use Rattle.std.specs.FinMap.{get}
-use Rattle.std.proofs.Math.Seq.{take-suc}
-use Rattle.std.proofs.lemmas.List.{append-nil, get_or-drop}
-use Rattle.std.proofs.lemmas.Option.{get_or_from_slice_get}
 use Rattle.volume_image.specs.Image.{IsImage, IsImageOf}
 use Rattle.archive_files.specs.declared.forms.GetForm.{GetForm}
 use Rattle.os8_dir.specs.declared.entries.DirEntry.{DirEntry}
@@ -12,7 +8,7 @@ use Rattle.os8_dir.specs.declared.entries.DirEntry.TheVariants as entry
 use Rattle.os8_dir.specs.Entries.{DirectoryState, IsTidy}
 use Rattle.os8_dir.specs.Reading.{directory_of}
 use Rattle.os8_dir.specs.Found.{IsDirectory, FilePlace, extent_of, files_at, find}
-use Rattle.os8_dir.specs.Files.{FileData, files_of, data_if_there, join_blocks, run}
+use Rattle.os8_dir.specs.Files.{FileData, files_of, data_if_there, run}
 use Rattle.os8_files.specs.Failed.{extent_or}
 use Rattle.os8_dir.specs.declared.file_faults.FileFault.TheVariants.{NotFound, NoRoom, DirectoryFull, Busy, BadName, TooLong, TentativeOpen, Device, Stopped, NothingWritten}
 use Rattle.os8_dir.specs.declared.file_faults.FileFault.TheVariants as file-fault
@@ -35,18 +31,6 @@ files-of-entries place (entry.File name words zero ∷ es) neat = absurd (omega 
 files-of-entries place (entry.File name words (suc size) ∷ es) neat =
     ap (λ l. record { name = name; place = place; blocks = suc size } ∷ l) (files-of-entries (place + suc size) es neat.2)
 files-of-entries place (entry.Empty size ∷ es) neat = files-of-entries (place + size) es neat.2
-
-joined-more : (bs : List (List ℕ)) (w : List ℕ) → join_blocks (bs ++ w ∷ []) ≡ join_blocks bs ++ w
-joined-more [] w = append-nil w
-joined-more (b ∷ bs) w = ap (λ r. b ++ r) (joined-more bs w) ∙ sym (append_assoc b (join_blocks bs) w)
-
--- one block more of a run
-pub run-more : (blocks : List (List ℕ)) (place k : ℕ) (words : List ℕ) → place + k < length blocks → slice_get blocks (place + k) ≡ Some words → run blocks place k ++ words ≡ run blocks place (k + 1)
-run-more blocks place k words inside is =
-    ap (λ w. run blocks place k ++ w) (sym (get_or-drop place blocks k [] ∙ get_or_from_slice_get blocks (place + k) words [] is))
-    ∙ sym (joined-more (take k (drop place blocks)) (get_or (drop place blocks) k []))
-    ∙ ap join_blocks (sym (take-suc (drop place blocks) k [] (omega (arith, length-drop place blocks, inside))))
-    ∙ ap (λ n. run blocks place n) (sym (add-one k))
 
 -- ## Where files lie
 

@@ -1,7 +1,6 @@
 -- A volume without the files that words choose.
 use Rattle.std.proofs.Common.{◌≡◌, ◌≢◌, ◌∙◌, ◌⊎◌, ◌<◌, ◌≤◌, ◌+◌, ◌||◌, ◌&&◌, ℕ, Bool, true, false, true≢false, if◌then◌else◌, nat_eq, eqb, Option, Some, None, Result, Ok, Err, is_ok, List, [], ◌∷◌, ◌++◌, length, map, refl, sym, ap, subst, arith, inl, inr}
 use Rattle.std.specs.FinMap.{get, remove, get-remove}
-use Rattle.std.specs.Ordering.{nat_cmp, eq_by_cmp}
 use Rattle.std.proofs.lemmas.Cmp.{nat_cmp_total}
 use Rattle.std.proofs.lemmas.List.{append-nil}
 use Rattle.std.proofs.lemmas.Bool.Decides.{nat_tests, eqb_tells}
@@ -16,6 +15,8 @@ use Rattle.archive_files.specs.Opening.{IsOpened}
 use Rattle.archive_files.specs.Asking.{AtBlock, AreAsked, asked_name, name_at, name_beginning}
 use Rattle.archive_files.specs.Deleting.{DeletesFiles, without}
 use Rattle.archive_files.specs.declared.deleting.DeletedImage.{DeletedImage}
+use Rattle.archive_files.proofs.LawLemmas.{one_volume, some_eq, tied}
+use Rattle.archive_many.proofs.WishLemmas.{or-assoc}
 use Rattle.archive_many.specs.Choosing.{files_like}
 use Rattle.archive_many.specs.Opened.{file_at, files_in, files_on, files_or}
 use Rattle.archive_many.specs.Wishing.{asked_by_words, by_place, first_unfound, found_files, has_place, once, wishes_of, wishes_for, wishes_of_word, with_wish}
@@ -24,12 +25,8 @@ use Rattle.archive_many.specs.declared.wishes.Wish.{Wish}
 use Rattle.archive_many.specs.declared.wishes.Wish.TheVariants as wish
 use Rattle.archive_many.proofs.FileLemmas.{FoundSo, SoundSo}
 use Rattle.archive_many.proofs.VolumeLemmas.{names, names-at}
-use Rattle.archive_many.proofs.LawLemmas.{one-volume}
 
 -- ## Tests
-
-some-eq : {X : Type 0} (x y : X) → Some x ≡ Some y → x ≡ y
-some-eq x y same = cc
 
 equal : (a b : ℕ) → eqb a b ≡ true → a ≡ b
 equal a b is = elim (eqb_tells a b) [ inl p ↦ p.1 | inr p ↦ absurd (true≢false (sym is ∙ p.0)) ]
@@ -50,18 +47,14 @@ or-test : (b c : Bool) → (if b then true else c) ≡ (b || c)
 or-test true c = refl
 or-test false c = refl
 
-or-assoc : (a b c : Bool) → (a || (b || c)) ≡ ((a || b) || c)
-or-assoc true b c = refl
-or-assoc false b c = refl
-
 -- ## A list of files that lie apart
 
 begun : (b : Bool) (f n : ℕ) (o : Option ℕ) → (if b then Some f else o) ≡ Some n → ((b ≡ true) × (f ≡ n)) ⊎ ((b ≡ false) × (o ≡ Some n))
-begun true f n o is = inl (refl, some-eq f n is)
+begun true f n o is = inl (refl, some_eq f n is)
 begun false f n o is = inr (refl, is)
 
 found : (b : Bool) (f g : FilePlace) (o : Option FilePlace) → (if b then Some f else o) ≡ Some g → ((b ≡ true) × (f ≡ g)) ⊎ ((b ≡ false) × (o ≡ Some g))
-found true f g o is = inl (refl, some-eq f g is)
+found true f g o is = inl (refl, some_eq f g is)
 found false f g o is = inr (refl, is)
 
 begun-in : (fs : List FilePlace) (x n : ℕ) → name_beginning x fs ≡ Some n → contains (names fs) n ≡ true
@@ -252,9 +245,6 @@ named from bound fs q g blocks (wish.Block block ∷ wishes) numbers apart disti
 
 -- ## The files that are left
 
-tied : (a b : ℕ) → eq_by_cmp nat_cmp b a ≡ eqb a b
-tied a b = grind (arith, nat_tests)
-
 get-removed : (m : Files) (name q : ℕ) → get (remove m name) q ≡ (if eqb name q then None else get m q)
 get-removed m name q = get-remove nat_cmp_total m name q ∙ ap (λ b. if b then None else get m q) (tied name q)
 
@@ -310,7 +300,7 @@ pub like-are-gone : WrittenIsReadBack → FoundSo → SoundSo → (image : List 
     → (blocks : List (List ℕ)) × IsImageOf new.bytes.items blocks × ((name : ℕ) → get (files_of blocks) name ≡ (if is_like_one words name then None else get (files_of old) name))
 like-are-gone law found sound image old words new opened none gone =
     let d = read-so (directory_of old) opened.sound in
-    let volume = one-volume law image gone.before.blocks old gone.mounted.opened.is_image opened.is_image in
+    let volume = one_volume law image gone.before.blocks old gone.mounted.opened.is_image opened.is_image in
     let wishes = ap (λ (files : List VolumeFile). wishes_of files false words []) (ap files_or d.1) ∙ ap (once []) (append-nil (asked_by_words (files_in d.0) 0 words)) in
     let asked = subst (λ (l : List Wish). AreAsked old (map by_place (found_files l)) new.names.items) wishes
     (subst (λ (blocks : List (List ℕ)). AreAsked blocks (map by_place (found_files (wishes_of (files_on old) false words []))) new.names.items) (sym volume) gone.named) in (

@@ -1,12 +1,9 @@
 -- Files that were put at once are got again.
-use Rattle.std.proofs.Common.{◌≡◌, ◌≢◌, ◌∙◌, ℕ, true, cond, Option, Some, None, Result, Ok, Err, List, [], ◌∷◌, ◌++◌, take, refl, sym, ap, subst, eqb, arith, inl, inr}
+use Rattle.std.proofs.Common.{◌≡◌, ◌∙◌, ℕ, true, Option, Some, None, Result, Ok, Err, List, [], ◌∷◌, ◌++◌, take, refl, sym, ap, subst}
 use Rattle.std.specs.Prelude.{is_ok}
 use Rattle.std.specs.Global.{Vec}
-use Rattle.std.specs.FinMap.{get, insert, get-insert}
-use Rattle.std.specs.Ordering.{nat_cmp, eq_by_cmp}
-use Rattle.std.proofs.lemmas.Cmp.{nat_cmp_total}
-use Rattle.std.proofs.lemmas.Bool.Decides.{nat_tests, eqb_tells}
-use Rattle.volume_image.specs.Image.{IsImageOf, WrittenIsReadBack}
+use Rattle.std.specs.FinMap.{get}
+use Rattle.volume_image.specs.Image.{WrittenIsReadBack}
 use Rattle.archive_files.specs.declared.forms.GetForm.{GetForm}
 use Rattle.archive_files.specs.declared.forms.GetForm.TheVariants as get_as
 use Rattle.archive_files.specs.declared.forms.PutForm.{PutForm}
@@ -23,6 +20,7 @@ use Rattle.os8_files.specs.Puts.{blocks_filled, file_with}
 use Rattle.archive_files.specs.Opening.{IsOpened}
 use Rattle.archive_files.specs.Getting.{IsGiven}
 use Rattle.archive_files.specs.Putting.{information_for, put_words}
+use Rattle.archive_files.proofs.LawLemmas.{get-here, get-there, some_eq, one_volume}
 use Rattle.archive_many.specs.Opened.{GetsFile, LiesOn}
 use Rattle.archive_many.specs.Putting.{ArePut, HasPutAll, info_or, words_in}
 use Rattle.archive_many.specs.Laws.{HoldsFile, IsNoneOf}
@@ -31,32 +29,7 @@ use Rattle.archive_many.specs.declared.opened.VolumeFile.{VolumeFile}
 use Rattle.archive_many.specs.declared.putting.NewFile.{NewFile}
 use Rattle.archive_many.specs.declared.putting.ManyImage.{ManyImage}
 
-some-eq : {X : Type 0} (x y : X) → Some x ≡ Some y → x ≡ y
-some-eq x y same = cc
-
--- an image is that of one list of blocks
-pub one-volume : WrittenIsReadBack → (bytes : List ℕ) (one two : List (List ℕ)) → IsImageOf bytes one → IsImageOf bytes two → two ≡ one
-one-volume law bytes one two is also = law bytes one (Ok (record { blocks = two; reads = 0; writes = 0 })) is (also, refl, refl)
-
 -- ## Maps
-
-tied : (a b : ℕ) → eq_by_cmp nat_cmp b a ≡ eqb a b
-tied a b = grind (arith, nat_tests)
-
-pub get-with : (m : Files) (name : ℕ) (h : FileData) (q : ℕ) → get (insert m name h) q ≡ cond (eqb name q) (Some h) (get m q)
-get-with m name h q = get-insert nat_cmp_total m name h q ∙ ap (λ b. cond b (Some h) (get m q)) (tied name q)
-
-get-here : (m : Files) (name : ℕ) (h : FileData) → get (insert m name h) name ≡ Some h
-get-here m name h = elim (eqb_tells name name) [
-  | inl p ↦ get-with m name h name ∙ ap (λ b. cond b (Some h) (get m name)) p.0
-  | inr p ↦ absurd (p.1 refl)
-]
-
-get-there : (m : Files) (name : ℕ) (h : FileData) (q : ℕ) → name ≢ q → get (insert m name h) q ≡ get m q
-get-there m name h q other = elim (eqb_tells name q) [
-  | inl p ↦ absurd (other p.1)
-  | inr p ↦ get-with m name h q ∙ ap (λ b. cond b (Some h) (get m q)) p.0
-]
 
 -- ## One file after the other
 
@@ -116,17 +89,17 @@ others-stay law image files info new name held put none was = record {
   blocks = put.after.blocks;
   opened = new-image image files info new put;
   there = stays put.before put.after info files name put.put none
-      ∙ ap (λ (blocks : List (List ℕ)). get (files_of blocks) name) (sym (one-volume law image put.before.blocks was.blocks put.mounted.opened.is_image was.opened.is_image)) ∙ was.there;
+      ∙ ap (λ (blocks : List (List ℕ)). get (files_of blocks) name) (sym (one_volume law image put.before.blocks was.blocks put.mounted.opened.is_image was.opened.is_image)) ∙ was.there;
 }
 
 second : {X Y : Type 0} (a : X × Y) (b : X × Y) → Some a ≡ Some b → a.1 ≡ b.1
-second a b is = ap (λ (p : _). p.1) (some-eq a b is)
+second a b is = ap (λ (p : _). p.1) (some_eq a b is)
 
 pub put-got : WrittenIsReadBack → (image : List ℕ) (before following : List NewFile) (f : NewFile) (info : Option (List ℕ)) (new : ManyImage) (blocks : List (List ℕ)) (found : VolumeFile) (form : GetForm) (bytes : Vec ℕ)
     → HasPutAll image (before ++ f ∷ following) info new → IsNoneOf f.name following → IsOpened new.bytes.items blocks → found.name ≡ f.name → GetsFile blocks found form (Ok bytes) → IsGiven form (words_in f) bytes.items
 put-got law image before following f info new blocks found form bytes put none opened named gets =
     let is = there put.before put.after info before following f put.put none in
-    let same = one-volume law new.bytes.items put.after.blocks blocks put.is_image opened.is_image in
+    let same = one_volume law new.bytes.items put.after.blocks blocks put.is_image opened.is_image in
     subst (λ (l : List ℕ). IsGiven form l bytes.items)
     (second gets.0 (is.0, words_in f)
     (sym gets.1.there ∙ ap (λ (b : List (List ℕ)). get (files_of b) found.name) same ∙ ap (λ n. get (files_of put.after.blocks) n) named ∙ is.1))
@@ -151,7 +124,7 @@ extent-stays old new info (f ∷ files) name put none =
 held-words : (blocks : List (List ℕ)) (info place size : ℕ) (o : Option FilePlace) (held : FileData) → extent_of o ≡ Some (place, size) → data_if_there blocks info o ≡ Some held → held.1 ≡ run blocks place size
 held-words blocks info place size None held extent is = absurd (cc)
 held-words blocks info place size (Some f) held extent is =
-    sym (second (take info f.info, run blocks f.place f.size) held is) ∙ ap (λ (p : ℕ × ℕ). run blocks p.0 p.1) (some-eq (f.place, f.size) (place, size) extent)
+    sym (second (take info f.info, run blocks f.place f.size) held is) ∙ ap (λ (p : ℕ × ℕ). run blocks p.0 p.1) (some_eq (f.place, f.size) (place, size) extent)
 
 -- the words of a file are those of its blocks
 words-run : FoundSo → (blocks : List (List ℕ)) (read : Result DirectoryState DirFault) (name place size : ℕ) (held : FileData) → directory_of blocks ≡ read → extent_or name read ≡ Some (place, size)
@@ -163,8 +136,8 @@ words-run found blocks (Err fault) name place size held read extent there = absu
 pub others-lie : FoundSo → WrittenIsReadBack → (image : List ℕ) (files : List NewFile) (info : Option (List ℕ)) (new : ManyImage) (old blocks : List (List ℕ)) (file : VolumeFile) (held : FileData)
     → HasPutAll image files info new → IsNoneOf file.name files → IsOpened image old → IsOpened new.bytes.items blocks → LiesOn old file held → LiesOn blocks file held
 others-lie found law image files info new old blocks file held put none was opened lies =
-    let before = one-volume law image put.before.blocks old put.mounted.opened.is_image was.is_image in
-    let after = one-volume law new.bytes.items put.after.blocks blocks put.is_image opened.is_image in
+    let before = one_volume law image put.before.blocks old put.mounted.opened.is_image was.is_image in
+    let after = one_volume law new.bytes.items put.after.blocks blocks put.is_image opened.is_image in
     let extent = ap (λ (b : List (List ℕ)). extent_or file.name (directory_of b)) after ∙ extent-stays put.before put.after info files file.name put.put none
     ∙ ap (λ (b : List (List ℕ)). extent_or file.name (directory_of b)) (sym before) ∙ lies.extent in
     let there = ap (λ (b : List (List ℕ)). get (files_of b) file.name) after ∙ stays put.before put.after info files file.name put.put none

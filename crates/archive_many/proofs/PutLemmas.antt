@@ -1,8 +1,8 @@
 -- Files that are put one after the other.
-use Rattle.std.proofs.Common.{◌≡◌, ◌∙◌, ◌⊎◌, ◌≤◌, ◌<◌, ◌+◌, ◌-◌, ◌∷◌, ◌++◌, ℕ, true, true≢false, Option, Some, Result, Ok, Err, List, [], get_or, map, take, drop, length, length-append, append_assoc, refl, sym, ap, arith, inl, inr}
+use Rattle.std.proofs.Common.{◌≡◌, ◌∙◌, ◌⊎◌, ◌≤◌, ◌<◌, ◌+◌, ◌∷◌, ◌++◌, ℕ, true, true≢false, Option, Some, Result, Ok, Err, List, [], map, length, length-append, append_assoc, refl, sym, ap, arith, inl, inr}
 use Rattle.std.specs.Prelude.{Bool, false, is_ok, nat_lt}
 use Rattle.std.proofs.lemmas.Bool.Decides.{nat_tests}
-use Rattle.std.proofs.lemmas.List.{append-nil, take_all}
+use Rattle.std.proofs.lemmas.List.{append-nil}
 use Rattle.os8_dir.specs.Entries.{DirectoryState, capacity, end_of, total}
 use Rattle.os8_dir.specs.Reading.{block, directory_of}
 use Rattle.os8_dir.specs.Files.{capacity_of}
@@ -23,11 +23,6 @@ use Rattle.archive_files.specs.Putting.{information_for}
 use Rattle.archive_many.specs.Putting.{ArePut, HasPutFile, IsRefusedAt, IsRefusedFile, KeepsUncovered, blocks_in, info_or, words_in}
 use Rattle.archive_many.specs.PutSteps.{IsRefusedAfter, PutsFile, PutsFiles}
 use Rattle.archive_many.specs.declared.putting.NewFile.{NewFile}
-
--- a list is its first and what a pattern binds after it
-pub first-and-others : {X : Type 0} (xs : List X) (x : X) → 1 ≤ length xs → x ≡ get_or xs 0 x → xs ≡ x ∷ take (length xs - 1) (drop 1 xs)
-first-and-others [] x some is = absurd (omega (arith, some))
-first-and-others (y ∷ xs) x some is = ap (λ z. z ∷ xs) (sym is) ∙ ap (λ l. x ∷ l) (sym (take_all (length (y ∷ xs) - 1) xs (omega arith)))
 
 -- a service is ready again after a file that was put
 pub ready-again : (old new : MountState) (info : Option (List ℕ)) (f : NewFile) → HasPutFile old info f new → IsReady new

@@ -11,6 +11,7 @@ use Rattle.name_spelling.specs.Laws.{ReadsWhatItSpells}
 use Rattle.name_spelling.specs.Reading.{read_name}
 use Rattle.os8_dir.specs.Reading.{directory_of}
 use Rattle.os8_dir.specs.Files.{FileData}
+use Rattle.archive_files.proofs.LawLemmas.{some_eq}
 use Rattle.archive_many.specs.Opened.{LiesOn, file_at, files_or}
 use Rattle.archive_many.specs.HostNames.{NamesHost}
 use Rattle.archive_many.specs.Laws.{IsOfWords}
@@ -133,13 +134,10 @@ in-order from bound (f ∷ fs) (b ∷ before) between following one two apart is
 
 -- ## Names of the host
 
-some-eq : {X : Type 0} (x y : X) → Some x ≡ Some y → x ≡ y
-some-eq x y same = cc
-
 -- two files of one name are one
 one-file : (fs : List FilePlace) (one two : VolumeFile) → Found fs one → Found fs two → one.name ≡ two.name → one.place ≡ two.place
 one-file fs one two first second same =
-    let placed : first.placed ≡ second.placed = some-eq first.placed second.placed (sym first.found ∙ ap (λ n. find n fs) same ∙ second.found) in
+    let placed : first.placed ≡ second.placed = some_eq first.placed second.placed (sym first.found ∙ ap (λ n. find n fs) same ∙ second.found) in
     ap (λ (v : VolumeFile). v.place) (sym first.is ∙ ap file_at placed ∙ second.is)
 
 -- two files are told of a volume, one after the other
@@ -167,7 +165,7 @@ are-two sound blocks before between following one two is =
 
 hosts-differ : ReadsWhatItSpells → (blocks : List (List ℕ)) (one two : VolumeFile) (text other : List ℕ) → AreTwo blocks one two → IsOfWords one.name → IsOfWords two.name → NamesHost one text → NamesHost two other → text ≢ other
 hosts-differ law blocks one two text other both small less spelled also same =
-    let name = some-eq one.name two.name (sym (law one.name small) ∙ ap read_name (sym spelled ∙ same ∙ also) ∙ law two.name less) in
+    let name = some_eq one.name two.name (sym (law one.name small) ∙ ap read_name (sym spelled ∙ same ∙ also) ∙ law two.name less) in
     let place = one-file both.files one two both.first both.second name in
     omega (arith, place, both.order)
 

@@ -10,7 +10,7 @@ use Rattle.archive_many.specs.Wishing.{wishes_of_word, wishes_for, has_place, wi
 use Rattle.archive_many.specs.declared.wishes.Wish.{Wish}
 use Rattle.archive_many.specs.declared.wishes.Wish.TheVariants as wish
 
-or-assoc : (a b c : Bool) → (a || (b || c)) ≡ ((a || b) || c)
+pub or-assoc : (a b c : Bool) → (a || (b || c)) ≡ ((a || b) || c)
 or-assoc true b c = refl
 or-assoc false b c = refl
 

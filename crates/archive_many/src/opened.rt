@@ -1,14 +1,13 @@
-ghost use Rattle.std.specs.Prelude.{◌≡◌, ◌+◌, ◌≤◌, ◌++◌, length, IfOk, OnOk};
+ghost use Rattle.std.specs.Prelude.{◌≡◌, ◌+◌, ◌≤◌, ◌++◌, IfOk, OnOk};
 ghost use Rattle.word12.specs.declared.sizes.TheConstants.{MOST_BLOCKS};
 ghost use Rattle.os8_dir.specs.Entries.{total};
-ghost use Rattle.os8_dir.specs.Files.{run};
 ghost use Rattle.volume_image.specs.Image.{block_word};
 ghost use Rattle.archive_many.specs.Opened.{GetsFile, OpensVolume, files_on, first_of, first_word, information_on};
 ghost use Rattle.archive_many.specs.Cutting.{are_zeros, is_cut};
 ghost use Rattle.archive_many.specs.Steps.{file_of_entry, files_of_entries};
 
 use crate::images::volume_of;
-use archive_files::parts::content_of_words;
+use archive_files::parts::{content_of_words, words_at};
 use archive_files::{ArchiveFault, GetForm};
 use os8_dir::laws::{files_found, files_inside, sound_directory};
 use os8_dir::{DirEntry, DirFault, Directory, Name};
@@ -196,22 +195,4 @@ fn put_file(place: usize, entry: &DirEntry, files: &mut Vec<VolumeFile>) -> Resu
         }
         DirEntry::Empty { .. } => Ok(()),
     }
-}
-
-/// The words of a run of blocks.
-pub(crate) fn words_at(
-    alloc: Global,
-    volume: &MemoryVolume,
-    place: usize,
-    blocks: usize,
-) -> Result<Vec<Word>, AllocError>
-    requires { place + blocks ≤ length volume.now.blocks }
-    ensures { IfOk result (λ words. words.items ≡ run volume.now.blocks place blocks) }
-{
-    let _blocks = volume.blocks();
-    let mut words = Vec::new(alloc);
-    for k in 0..blocks {
-        words.extend_from_slice(volume.block(place + k))?;
-    }
-    Ok(words)
 }

@@ -2,9 +2,8 @@ ghost use Rattle.archive_many.specs.Raw.{GetsBlocks};
 
 use crate::BlocksFault;
 use crate::images::volume_of;
-use crate::opened::words_at;
 use archive_files::GetForm;
-use archive_files::parts::content_of_words;
+use archive_files::parts::{content_of_words, words_at};
 use std::alloc::Global;
 use volume_image::BlockStore;
 

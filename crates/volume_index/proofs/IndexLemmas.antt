@@ -1,9 +1,7 @@
--- The lines of a volume's files, and the words of runs of blocks.
-use Rattle.std.proofs.Common.{◌≡◌, ℕ, zero, suc, ◌+◌, ◌-◌, ◌<◌, ◌≤◌, ◌∙◌, Bool, true, false, if◌then◌else◌, Option, Some, Result, Ok, Err, OnOk, List, [], ◌∷◌, ◌++◌, take, drop, length, get_or, refl, sym, ap, subst, arith, append_assoc, add-one, length-drop}
-use Rattle.std.specs.Prelude.{slice_get, slice_index}
-use Rattle.std.proofs.Math.Seq.{take-suc}
-use Rattle.std.proofs.lemmas.List.{append-nil, get_or-drop, take_all}
-use Rattle.std.proofs.lemmas.Option.{get_or_from_slice_get}
+-- The lines of a volume's files.
+use Rattle.std.proofs.Common.{◌≡◌, ℕ, zero, suc, ◌+◌, ◌-◌, ◌<◌, ◌≤◌, ◌∙◌, Bool, true, false, if◌then◌else◌, Option, Result, Ok, Err, OnOk, List, [], ◌∷◌, ◌++◌, take, drop, length, get_or, refl, sym, ap, subst, arith}
+use Rattle.std.specs.Prelude.{slice_index}
+use Rattle.std.proofs.lemmas.List.{append-nil, take_all}
 use Rattle.os8_dir.specs.declared.entries.DirEntry.{DirEntry}
 use Rattle.os8_dir.specs.declared.entries.DirEntry.TheVariants.{File, Empty}
 use Rattle.char_pack.specs.Packing.{frames}
@@ -14,7 +12,7 @@ use Rattle.volume_image.specs.Image.{IsImageOf}
 use Rattle.os8_dir.specs.Entries.{DirectoryState, IsTidy, size_of, total}
 use Rattle.os8_dir.specs.Reading.{directory_of}
 use Rattle.os8_dir.specs.Found.{FilePlace, files_at}
-use Rattle.os8_dir.specs.Files.{join_blocks, run}
+use Rattle.os8_dir.specs.Files.{run}
 use Rattle.volume_index.specs.Indexing.{AreLinesOf, IsIndex, IsLineIf, block_bytes, entry_of, holds_wanted, is_chosen}
 use Rattle.volume_index.specs.Years.{last_in}
 use Rattle.volume_index.specs.declared.styles.IndexStyle.{IndexStyle}
@@ -116,15 +114,3 @@ no-more style name number last image blocks place [] none = refl
 no-more style name number last image blocks place (entry ∷ rest) none = absurd (omega (arith, none))
 
 -- ## Words
-
-joined-more : (bs : List (List ℕ)) (w : List ℕ) → join_blocks (bs ++ w ∷ []) ≡ join_blocks bs ++ w
-joined-more [] w = append-nil w
-joined-more (b ∷ bs) w = ap (λ r. b ++ r) (joined-more bs w) ∙ sym (append_assoc b (join_blocks bs) w)
-
--- one block more of a run
-pub run-more : (blocks : List (List ℕ)) (place k : ℕ) (words : List ℕ) → place + k < length blocks → slice_get blocks (place + k) ≡ Some words → run blocks place k ++ words ≡ run blocks place (k + 1)
-run-more blocks place k words inside is =
-    ap (λ w. run blocks place k ++ w) (sym (get_or-drop place blocks k [] ∙ get_or_from_slice_get blocks (place + k) words [] is))
-    ∙ sym (joined-more (take k (drop place blocks)) (get_or (drop place blocks) k []))
-    ∙ ap join_blocks (sym (take-suc (drop place blocks) k [] (omega (arith, length-drop place blocks, inside))))
-    ∙ ap (λ n. run blocks place n) (sym (add-one k))

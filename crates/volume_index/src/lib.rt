@@ -19,7 +19,6 @@ mod quoting;
 mod same;
 mod styles;
 mod text_lines;
-mod words;
 mod years;
 
 pub use indexing::index_volume;

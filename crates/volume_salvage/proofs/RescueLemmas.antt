@@ -1,7 +1,6 @@
 -- Files that are kept one after the other.
-use Rattle.std.proofs.Common.{◌≡◌, ℕ, ◌+◌, ◌-◌, ◌≤◌, List, [], ◌∷◌, ◌++◌, get_or, length, take, drop, length-append, append_assoc, refl, sym, ap, ◌∙◌, arith}
+use Rattle.std.proofs.Common.{◌≡◌, ℕ, ◌+◌, List, [], ◌∷◌, ◌++◌, length, length-append, append_assoc, sym, ap, ◌∙◌}
 use Rattle.std.specs.FinMap.{insert}
-use Rattle.std.proofs.lemmas.List.{take_all}
 use Rattle.os8_dir.specs.Files.{Files, files_of}
 use Rattle.os8_dir.specs.Names.{with_end_zeros}
 use Rattle.os8_files.specs.Calls.{IsReady, info_of}
@@ -9,11 +8,6 @@ use Rattle.os8_files.specs.Mounted.{MountState}
 use Rattle.os8_files.specs.Puts.{HasPutWith}
 use Rattle.volume_salvage.specs.Rescued.{with_files}
 use Rattle.volume_salvage.specs.declared.volumes.KeptFile.{KeptFile}
-
--- a list is its first and what a pattern binds after it
-pub first-and-others : {X : Type 0} (xs : List X) (x : X) → 1 ≤ length xs → x ≡ get_or xs 0 x → xs ≡ x ∷ take (length xs - 1) (drop 1 xs)
-first-and-others [] x some is = absurd (omega (arith, some))
-first-and-others (y ∷ xs) x some is = ap (λ z. z ∷ xs) (sym is) ∙ ap (λ l. x ∷ l) (sym (take_all (length (y ∷ xs) - 1) xs (omega arith)))
 
 pub ready-again : (old new : MountState) (f : KeptFile) → HasPutWith old f.name f.info f.words.items new → IsReady new
 ready-again old new f put = record {
@@ -34,10 +28,6 @@ one-more all before rest others f split is = split ∙ ap (λ l. before ++ l) is
 
 pub one-longer : (before : List KeptFile) (f : KeptFile) (place : ℕ) → place ≡ length before → place + 1 ≡ length (before ++ f ∷ [])
 one-longer before f place is = ap (λ n. n + 1) is ∙ sym (length-append before (f ∷ []))
-
-pub nothing : (rest : List KeptFile) → length rest ≤ 0 → rest ≡ []
-nothing [] none = refl
-nothing (f ∷ rest) none = absurd (omega (arith, none))
 
 pub one-at : (all before rest others : List KeptFile) (f : KeptFile) → all ≡ before ++ rest → rest ≡ f ∷ others → all ≡ before ++ f ∷ others
 one-at all before rest others f split is = split ∙ ap (λ l. before ++ l) is

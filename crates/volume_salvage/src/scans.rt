@@ -7,8 +7,8 @@ ghost use Rattle.volume_salvage.specs.Scanning.{IsScan, Scans, piece_line, piece
 use crate::pieces::{Piece, program_piece, segment_piece, text_piece};
 use crate::salvages::volume_of;
 use crate::scan_lines::{put_piece, put_pieces};
-use crate::words::words_at;
 use archive_files::ArchiveFault;
+use archive_files::parts::words_at;
 use block_scan::{Program, Segment, TextPiece, programs_in, segments_in, texts_in};
 use char_pack::Frames;
 use std::alloc::{AllocError, Global};

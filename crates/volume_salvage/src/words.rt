@@ -1,14 +1,13 @@
 //! The words of files, by where they lie.
-ghost use Rattle.std.specs.Prelude.{◌≡◌, ◌+◌, ◌≤◌, length, IfOk};
-ghost use Rattle.os8_dir.specs.Files.{run};
+ghost use Rattle.std.specs.Prelude.{length, IfOk};
 ghost use Rattle.archive_survey.specs.Laws.{AreInside};
 ghost use Rattle.volume_salvage.specs.Salvaging.{AreFilesOf};
 
 use crate::KeptFile;
+use archive_files::parts::words_at;
 use archive_survey::FoundFile;
 use std::alloc::{AllocError, Global};
-use volume_image::{BlockStore, MemoryVolume};
-use word12::Word;
+use volume_image::MemoryVolume;
 
 /// Files that lie in a volume, each with its words.
 pub fn files_with_words(
@@ -31,22 +30,4 @@ pub fn files_with_words(
         rest = others;
     }
     Ok(kept)
-}
-
-/// The words of a run of blocks.
-pub(crate) fn words_at(
-    alloc: Global,
-    volume: &MemoryVolume,
-    place: usize,
-    blocks: usize,
-) -> Result<Vec<Word>, AllocError>
-    requires { place + blocks ≤ length volume.now.blocks }
-    ensures { IfOk result (λ words. words.items ≡ run volume.now.blocks place blocks) }
-{
-    let _blocks = volume.blocks();
-    let mut words = Vec::new(alloc);
-    for k in 0..blocks {
-        words.extend_from_slice(volume.block(place + k))?;
-    }
-    Ok(words)
 }

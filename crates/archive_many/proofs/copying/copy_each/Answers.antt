@@ -3,7 +3,7 @@ use Rattle.std.proofs.lemmas.Result.{err_from_is_err_and}
 use Rattle.archive_many.specs.CopySteps.{CopiesEach, CopiesNext}
 use Rattle.archive_many.specs.declared.opened.VolumeFile.{VolumeFile}
 use Rattle.archive_many.proofs.CopyLemmas.{copied-next, not-copied-next}
-use Rattle.archive_many.proofs.PutLemmas.{first-and-others}
+use Rattle.archive_files.proofs.ListLemmas.{first-and-others}
 use Rattle.archive_many.proofs.copying.copy_each.Goals as goal
 
 pub returns-in_err-image : goal.returns-in_err-image

@@ -5,7 +5,8 @@ use Rattle.os8_dir.specs.declared.file_faults.FileFault.TheVariants.{BadName}
 use Rattle.refusals.specs.declared.faults.SessionFault.TheVariants.{File}
 use Rattle.archive_many.specs.PutSteps.{PutsFiles}
 use Rattle.archive_many.specs.declared.putting.NewFile.{NewFile}
-use Rattle.archive_many.proofs.PutLemmas.{begins-low, first-and-others, free-again, head-put, head-refused, none-put, ready-again}
+use Rattle.archive_files.proofs.ListLemmas.{first-and-others}
+use Rattle.archive_many.proofs.PutLemmas.{begins-low, free-again, head-put, head-refused, none-put, ready-again}
 use Rattle.archive_many.proofs.putting.put_files.Goals as goal
 
 pub returns-then-not-has_first_word : goal.returns-then-not-has_first_word

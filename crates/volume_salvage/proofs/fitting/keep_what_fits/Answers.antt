@@ -1,5 +1,5 @@
 use Rattle.std.proofs.Common.{◌-◌, length, take, drop, arith}
-use Rattle.volume_salvage.proofs.RescueLemmas.{first-and-others, nothing}
+use Rattle.archive_files.proofs.ListLemmas.{first-and-others, nothing}
 use Rattle.volume_salvage.proofs.FitLemmas.{none-so-far, one-fitted, all-fitted}
 use Rattle.volume_salvage.proofs.fitting.keep_what_fits.Goals as goal
 

@@ -1,7 +1,8 @@
 use Rattle.std.proofs.Common.{[], ◌∷◌, ◌++◌, ◌-◌, length, take, drop, ◌∙◌}
 use Rattle.std.proofs.lemmas.Result.{err_from_is_err_and}
 use Rattle.os8_files.specs.Calls.{info_of}
-use Rattle.volume_salvage.proofs.RescueLemmas.{files-left, first-and-others, one-at, one-longer, one-more, ready-again}
+use Rattle.archive_files.proofs.ListLemmas.{first-and-others}
+use Rattle.volume_salvage.proofs.RescueLemmas.{files-left, one-at, one-longer, one-more, ready-again}
 use Rattle.volume_salvage.proofs.RowLemmas.{differ-init, row-more}
 use Rattle.volume_salvage.proofs.volumes.keep_files.Goals as goal
 

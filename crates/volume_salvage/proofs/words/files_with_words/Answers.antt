@@ -1,5 +1,6 @@
 use Rattle.std.proofs.Common.{◌-◌, length, take, drop, refl, arith}
-use Rattle.volume_salvage.proofs.WordLemmas.{first-and-others, nothing, others-inside, one-kept, all-kept}
+use Rattle.archive_files.proofs.ListLemmas.{first-and-others, nothing}
+use Rattle.volume_salvage.proofs.WordLemmas.{others-inside, one-kept, all-kept}
 use Rattle.volume_salvage.proofs.words.files_with_words.Goals as goal
 
 pub loop-rest-init : goal.loop-rest-init
