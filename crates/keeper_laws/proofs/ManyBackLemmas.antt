@@ -35,11 +35,9 @@ use Rattle.put_commands.specs.Putting.{Names, given_name, name_or_zeros}
 use Rattle.keeper_laws.specs.CopiedAll.{AreChosen}
 use Rattle.keeper_laws.specs.GettingBack.{IsPrinted}
 use Rattle.keeper_laws.specs.Stored.{AreGiven}
-use Rattle.keeper_laws.proofs.AgainLemmas.{LongerTape, NoFault, got-again, one-volume}
+use Rattle.archive_files.proofs.AgainLemmas.{LongerTape, NoFault, got_again}
+use Rattle.archive_files.proofs.LawLemmas.{one_volume, some_eq}
 use Rattle.keeper_laws.proofs.BackLemmas.{is-printed}
-
-some-eq : {X : Type 0} (x y : X) → Some x ≡ Some y → x ≡ y
-some-eq x y same = cc
 
 -- ## Files that were put
 
@@ -55,7 +53,7 @@ packed-words form bytes is = ap (λ (f : PutForm). put_words f bytes) is
 pub other-file : OthersStay → (image name words : List ℕ) (number : ℕ) (files : List NewFile) (info : Option (List ℕ)) (new : ManyImage) → PutsAll image files info (Ok new) → IsNoneOf number files
     → typed_name name ≡ Some number → IsFile image (OfName name) words → IsFile new.bytes.items (OfName name) words
 other-file law image name words number files info new puts none named file =
-    let is : file.number ≡ number = some-eq file.number number (sym file.named ∙ named) in
+    let is : file.number ≡ number = some_eq file.number number (sym file.named ∙ named) in
     let held : HoldsFile image number (file.info, words) = record { blocks = file.blocks; opened = file.opened; there = subst (λ (n : ℕ). get (files_of file.blocks) n ≡ Some (file.info, words)) is file.there } in
     held-file new.bytes.items name words file.info number named (law image files info new number (file.info, words) puts none held)
 
@@ -69,7 +67,7 @@ module _ (form : ImageForm) (saved image : List ℕ) (files : List NewFile) (inf
     frames-back back longer none law packs before following file name are last named is small =
         let there = law image before following file info made (subst (λ (l : List NewFile). PutsAll image l info (Ok made)) are puts) last in
         is-printed form saved made.bytes.items name (whole_blocks file.bytes.items) get_as.Frames found
-        (λ answer again. got-again back longer none made.bytes.items name (words_in file) (whole_blocks file.bytes.items) get_as.Frames answer
+        (λ answer again. got_again back longer none made.bytes.items (OfName name) (words_in file) (whole_blocks file.bytes.items) get_as.Frames answer
         (held-file made.bytes.items name (words_in file) there.0 file.name named there.1)
         (sym (ap frames (packed-words file.form file.bytes.items is) ∙ (packs file.bytes.items small).reads_back)) again)
 
@@ -118,7 +116,7 @@ typed-so None name is named = absurd (omega (arith, is, named))
 -- the one file that is put under a name that is given
 pub named-so : (asked : PutFilesForm) (paths : List (List ℕ)) (file : NewFile) (text : List ℕ) → AreGiven asked paths (file ∷ []) → given_name asked ≡ Some text → file.name ≡ name_or_zeros (typed_name text)
 named-so asked [] file text given is = absurd given
-named-so asked (path ∷ paths) file text (one, rest) is = some-eq file.name (name_or_zeros (typed_name text)) (subst (λ (g : Option (List ℕ)). Names g path (Some file.name)) is one.named)
+named-so asked (path ∷ paths) file text (one, rest) is = some_eq file.name (name_or_zeros (typed_name text)) (subst (λ (g : Option (List ℕ)). Names g path (Some file.name)) is one.named)
 
 -- ## Files that were copied
 
@@ -153,13 +151,13 @@ module _ (back : WrittenIsReadBack) (same : CopyIsTheSame) (law : LikeAreCopied)
     sound : IsOpened made.items all.0
     sound =
         let has = are-opened same from to made.items old files opened copies.1 in
-        subst (λ (b : List (List ℕ)). IsOpened made.items b) (one-volume back made.items all.0 has.0 all.1 has.1.is_image) has.1
+        subst (λ (b : List (List ℕ)). IsOpened made.items b) (one_volume back made.items all.0 has.0 all.1 has.1.is_image) has.1
 
     -- one whose name is like a word is got of the new image as of the old one
     pub copied-file : (held : List ℕ) → is_like_one words number ≡ true → IsFile from (OfName name) held → IsFile made.items (OfName name) held
     copied-file held like file =
-        let is : file.number ≡ number = some-eq file.number number (sym file.named ∙ named) in
-        let volume : file.blocks ≡ chosen.blocks = one-volume back from chosen.blocks file.blocks chosen.opens.is_image file.opened.is_image in
+        let is : file.number ≡ number = some_eq file.number number (sym file.named ∙ named) in
+        let volume : file.blocks ≡ chosen.blocks = one_volume back from chosen.blocks file.blocks chosen.opens.is_image file.opened.is_image in
         let there : get (files_of chosen.blocks) number ≡ Some (file.info, held) =
         subst (λ (n : ℕ). get (files_of chosen.blocks) n ≡ Some (file.info, held)) is (subst (λ (b : List (List ℕ)). get (files_of b) file.number ≡ Some (file.info, held)) volume file.there) in
         record {
@@ -174,8 +172,8 @@ module _ (back : WrittenIsReadBack) (same : CopyIsTheSame) (law : LikeAreCopied)
     -- another one is there as it was
     pub older-file : (held : List ℕ) → is_like_one words number ≡ false → IsFile to (OfName name) held → IsFile made.items (OfName name) held
     older-file held unlike file =
-        let is : file.number ≡ number = some-eq file.number number (sym file.named ∙ named) in
-        let volume : file.blocks ≡ old = one-volume back to old file.blocks opened.is_image file.opened.is_image in
+        let is : file.number ≡ number = some_eq file.number number (sym file.named ∙ named) in
+        let volume : file.blocks ≡ old = one_volume back to old file.blocks opened.is_image file.opened.is_image in
         let there : get (files_of old) number ≡ Some (file.info, held) =
         subst (λ (n : ℕ). get (files_of old) n ≡ Some (file.info, held)) is (subst (λ (b : List (List ℕ)). get (files_of b) file.number ≡ Some (file.info, held)) volume file.there) in
         record {

@@ -1,15 +1,16 @@
 use Rattle.std.proofs.Common.{Ok, subst}
-use Rattle.archive_files.specs.Asking.{Target, target_of}
+use Rattle.archive_files.specs.Asking.{Target, target_of, OfName}
 use Rattle.archive_files.specs.Copying.{CopiesFile}
 use Rattle.change_commands.specs.Copying.{new_name}
-use Rattle.keeper_laws.proofs.AgainLemmas.{copied-words, got-again, name-kept, name-typed, other-words}
+use Rattle.archive_files.proofs.AgainLemmas.{got_again}
+use Rattle.keeper_laws.proofs.AgainLemmas.{copied-words, name-kept, name-typed, other-words}
 use Rattle.keeper_laws.proofs.BackLemmas.{is-printed}
 use Rattle.keeper_laws.proofs.laws.copy_comes_back.Goals as goal
 
 pub returns-clause-copies : goal.returns-clause-copies
 returns-clause-copies c form ok old new copied name how before named gets =
     is-printed form.to copied.has.file copied.made.bytes.items name before.items how copied.has.found
-    (λ answer again. got-again c.image_round_trip.ensures.written_is_read_back c.longer_tape.ensures c.no_fault.ensures copied.made.bytes.items name gets.0 before.items how answer
+    (λ answer again. got_again c.image_round_trip.ensures.written_is_read_back c.longer_tape.ensures c.no_fault.ensures copied.made.bytes.items (OfName name) gets.0 before.items how answer
     (copied-words c.copied_file.ensures.same copied.from copied.image.bytes.items name (target_of form.file) (new_name form) copied.made gets.0 copied.copies named gets.1) gets.2 again)
 
 pub returns-clause-typed : goal.returns-clause-typed
@@ -22,5 +23,5 @@ returns-clause-kept c form ok old new copied name is meant =
 pub returns-clause-others : goal.returns-clause-others
 returns-clause-others c form ok old new copied name how before differ gets =
     is-printed form.to copied.has.file copied.made.bytes.items name before.items how copied.has.found
-    (λ answer again. got-again c.image_round_trip.ensures.written_is_read_back c.longer_tape.ensures c.no_fault.ensures copied.made.bytes.items name gets.0 before.items how answer
+    (λ answer again. got_again c.image_round_trip.ensures.written_is_read_back c.longer_tape.ensures c.no_fault.ensures copied.made.bytes.items (OfName name) gets.0 before.items how answer
     (other-words c.copied_file.ensures.others copied.from copied.image.bytes.items name (target_of form.file) (new_name form) copied.made gets.0 copied.copies differ gets.1) gets.2 again)

@@ -5,7 +5,8 @@ use Rattle.archive_many.specs.declared.putting.NewFile.{NewFile}
 use Rattle.image_files.specs.Stored.{words_of}
 use Rattle.put_commands.specs.Putting.{paths_of}
 use Rattle.keeper_laws.specs.Stored.{AreGiven}
-use Rattle.keeper_laws.proofs.AgainLemmas.{got-again}
+use Rattle.archive_files.specs.Asking.{OfName}
+use Rattle.archive_files.proofs.AgainLemmas.{got_again}
 use Rattle.keeper_laws.proofs.BackLemmas.{is-printed}
 use Rattle.keeper_laws.proofs.ManyBackLemmas.{frames-back, named-so, other-file, tape-back, text-back, typed-so}
 use Rattle.keeper_laws.proofs.laws.put_comes_back.Goals as goal
@@ -31,5 +32,5 @@ returns-clause-text c form ok old new stored file name are named is =
 pub returns-clause-others : goal.returns-clause-others
 returns-clause-others c form ok old new stored name number how before named none gets =
     is-printed form.image stored.has.file stored.stored.bytes.items name before.items how stored.has.found
-    (λ answer again. got-again c.image_round_trip.ensures.written_is_read_back c.longer_tape.ensures c.no_fault.ensures stored.stored.bytes.items name gets.0 before.items how answer
+    (λ answer again. got_again c.image_round_trip.ensures.written_is_read_back c.longer_tape.ensures c.no_fault.ensures stored.stored.bytes.items (OfName name) gets.0 before.items how answer
     (other-file c.put_many_is_got.ensures.others stored.image.bytes.items name gets.0 number stored.files (words_of form.info) stored.stored stored.puts none named gets.1) gets.2 again)
