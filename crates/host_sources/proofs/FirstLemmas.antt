@@ -13,6 +13,8 @@ use Rattle.pal_asm.specs.Places.{Source, place_at, values}
 use Rattle.pal_asm.specs.Words.{word_values}
 use Rattle.pal_asm.specs.Faults.{first_of, at_line, word_fault, words_fault, no_end, no_word}
 use Rattle.source_places.specs.declared.places.Place.{Place}
+use Rattle.pal_lex.proofs.LawLemmas.{one_more, newest}
+use Rattle.pal_asm.proofs.TextLemmas.{nothing_read}
 use Rattle.host_sources.specs.Sources.{newest_first}
 use Rattle.host_sources.specs.Places.{shortest, is_settled, place_at_byte}
 use Rattle.host_sources.specs.Marks.{at_mark, mark_of, ended_mark}
@@ -22,7 +24,7 @@ use Rattle.host_sources.specs.Further.{with_line, newest_fault, byte_fault, with
 use Rattle.host_sources.specs.Laws.{FirstIsTold}
 use Rattle.host_sources.specs.declared.faults.Fault.{Fault}
 use Rattle.host_sources.proofs.PauseLemmas.{ends_parts}
-use Rattle.host_sources.proofs.LocateLemmas.{newest, one_more, nothing_read, words_stay}
+use Rattle.host_sources.proofs.LocateLemmas.{words_stay}
 use Rattle.host_sources.proofs.MarkLemmas.{by_settled}
 use Rattle.host_sources.proofs.UnknownLemmas.{by_settled as settled_unknown, not_refused}
 

@@ -17,6 +17,7 @@ use Rattle.pal_asm.specs.Words.{word_values}
 use Rattle.pal_asm.specs.Faults.{word_fault}
 use Rattle.source_places.specs.Places.{place_in, place_by}
 use Rattle.source_places.specs.declared.places.Place.{Place}
+use Rattle.source_places.proofs.PlaceLemmas.{next_byte}
 use Rattle.host_sources.specs.Sources.{texts_of, newest_first, counts_of}
 use Rattle.host_sources.specs.Places.{is_refused, place_at_byte}
 use Rattle.host_sources.specs.Marks.{at_mark, mark_of}
@@ -26,7 +27,6 @@ use Rattle.host_sources.specs.JudgeSteps.{known_last, faults_of_words}
 use Rattle.host_sources.specs.Further.{with_line, newest_fault, byte_fault, with_place, word_faults, further_faults}
 use Rattle.host_sources.specs.Lexical.{lexical_further}
 use Rattle.host_sources.specs.declared.further.Found.{Found}
-use Rattle.host_sources.proofs.PauseLemmas.{next_byte}
 use Rattle.host_sources.proofs.NameLemmas.{tagged_names}
 
 -- ## Lists of them

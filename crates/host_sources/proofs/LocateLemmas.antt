@@ -1,8 +1,8 @@
 -- Where a text has its fault.
 use Rattle.std.proofs.Common.{◌≡◌, ℕ, ◌+◌, ◌≤◌, ◌<◌, nat_eq, Bool, true, false, ◌||◌, not, if◌then◌else◌, Option, Some, None, Result, Ok, Err, is_some, length, take, drop, get_or, List, [], ◌∷◌, ◌++◌, refl, ap, sym, subst, ◌∙◌}
 use Rattle.std.proofs.lemmas.List.{take_all}
-use Rattle.pal_lex.specs.Text.{is_over, ends_statement, stretch, text_of, line_after}
-use Rattle.pal_lex.specs.Statements.{statements, first_fault, judge_statement, radix_after}
+use Rattle.pal_lex.specs.Text.{is_over, ends_statement, text_of}
+use Rattle.pal_lex.specs.Statements.{statements, first_fault}
 use Rattle.pal_lex.specs.Laws.{EndsSource}
 use Rattle.pal_lex.specs.Reading.{HasRead, Answers, HandsOut, is_pause_body, tokens_after, with_tokens}
 use Rattle.pal_lex.specs.Progress.{Progress}
@@ -21,11 +21,14 @@ use Rattle.pal_asm.specs.Laws.{LexicalFaultIsTold, NoLexicalFault, NoFaultBefore
 use Rattle.pal_asm.specs.Laws as asm_laws
 use Rattle.pal_asm.specs.Progress as asm
 use Rattle.pal_asm.specs.Passes.{IsFirst, IsSecond, AnswersSecond, BeginsSecond}
+use Rattle.source_places.proofs.PlaceLemmas.{next_byte}
+use Rattle.pal_lex.proofs.LawLemmas.{one_more, newest}
+use Rattle.pal_asm.proofs.TextLemmas.{nothing_read}
 use Rattle.host_sources.specs.Places.{shortest, is_refused, is_settled}
 use Rattle.host_sources.specs.Steps.{is_memory, step_after, PassesStatement, PassesByte, Passes, MakesByte, IsSettledAt, IsMetAt}
 use Rattle.host_sources.specs.declared.locating.Step.TheVariants as step
 use Rattle.host_sources.specs.declared.locating.Passed.TheVariants as passed
-use Rattle.host_sources.proofs.PauseLemmas.{none_ends, one_ends, ends_parts, over_stays, calm_byte, next_byte, whole_text, none_some, true_false, tells_fault}
+use Rattle.host_sources.proofs.PauseLemmas.{none_ends, one_ends, ends_parts, over_stays, calm_byte, whole_text, none_some, true_false, tells_fault}
 
 -- ## The shortest beginning
 
@@ -35,13 +38,6 @@ shortest_at holds stays [] here b now earlier = rw earlier refl
 shortest_at holds stays (c ∷ later) here b now earlier = rw (stays later (b ∷ here) now) (shortest_at holds stays later here b now earlier)
 
 -- ## What stays
-
-abbrev pub newest : List ℕ → ℕ → Result Statement LexFault
-newest text b = judge_statement (line_after text) (nat_eq b 36) (stretch text) (radix_after (statements text))
-
-pub one_more : (b : ℕ) (text : List ℕ) → statements (b ∷ text) ≡ (if ends_statement text b then newest text b ∷ statements text else statements text)
-unfolding statements
-one_more b text = refl
 
 first_step : (ends : Bool) (s : Result Statement LexFault) (older : Source) (f : AsmFault) → first_order older ≡ Some f → first_order (if ends then s ∷ older else older) ≡ Some f
 first_step true (Ok s) older f e = ap (λ o. first_of o (at_line s.line (statement_fault s older))) e
@@ -278,10 +274,6 @@ pub record FirstStands (bytes : List ℕ) (taken : ℕ) (lexer : Progress) (asse
   pub first : IsFirst assembler (statements (text_of (take taken bytes)))
   pub going : is_over (text_of (take taken bytes)) ≡ false
   pub may : lexer.may_pause ≡ false
-
-pub nothing_read : statements [] ≡ []
-unfolding statements
-nothing_read = refl
 
 pub first_begins : (bytes : List ℕ) (lexer : Progress) (assembler : asm.Progress) → HasRead lexer 0 [] → IsFirst assembler [] → lexer.may_pause ≡ false → FirstStands bytes 0 lexer assembler
 first_begins bytes lexer assembler read first may = record { read = read; first = subst (IsFirst assembler) (sym nothing_read) first; going = refl; may = may }

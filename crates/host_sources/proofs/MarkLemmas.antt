@@ -6,12 +6,12 @@ use Rattle.pal_faults.specs.declared.assembling.Code.{Code}
 use Rattle.pal_asm.specs.Faults.{first_order}
 use Rattle.pal_asm.specs.Places.{values}
 use Rattle.source_places.specs.declared.subjects.About.TheVariants.{Nothing}
+use Rattle.source_places.proofs.PlaceLemmas.{next_byte}
 use Rattle.host_sources.specs.Places.{shortest, is_refused, is_settled}
 use Rattle.host_sources.specs.Marks.{mark_of, ended_mark, fault_mark}
 use Rattle.host_sources.specs.Steps.{IsMetAt}
 use Rattle.host_sources.specs.declared.locating.Passed.TheVariants as passed
 use Rattle.host_sources.specs.declared.marks.Mark.{Mark}
-use Rattle.host_sources.proofs.PauseLemmas.{next_byte}
 use Rattle.host_sources.proofs.TextLemmas.{length_whole}
 use Rattle.host_sources.proofs.UnknownLemmas.{not_refused}
 use Rattle.host_sources.proofs.LocateLemmas.{shortest_is, refused_stays, settled_stays, refused_whole}

@@ -2,8 +2,9 @@
 use Rattle.std.proofs.Common.{◌≡◌, ℕ, ◌+◌, ◌-◌, ◌<◌, nat_eq, Bool, true, false, ◌&&◌, ◌||◌, not, if◌then◌else◌, Option, Some, None, is_some, option_map, length, take, get_or, suc, List, [], ◌∷◌, ◌++◌, refl, ap, sym, ◌∙◌, arith}
 use Rattle.std.specs.Option.{option_or}
 use Rattle.pal_asm.specs.Faults.{fault_of}
-use Rattle.pal_lex.specs.Text.{is_ignored, in_comment, is_dead, is_end, text_from, text_of}
+use Rattle.pal_lex.specs.Text.{is_ignored, in_comment, is_dead, is_end, text_of}
 use Rattle.source_places.specs.declared.places.Place.{Place}
+use Rattle.source_places.proofs.PlaceLemmas.{next_byte, grown}
 use Rattle.host_sources.specs.Places.{shortest, is_refused}
 use Rattle.host_sources.specs.Mending.{up_to_comma, body_place, end_place, with_erasure, turns, harmless}
 use Rattle.host_sources.specs.MendSteps.{comma_by, erased_byte, Mends, GoesOn, Advances}
@@ -14,7 +15,6 @@ use Rattle.host_sources.specs.Lexical.{lexical_code, lexical_by, lexical_fault, 
 use Rattle.host_sources.specs.Steps.{IsMetAt}
 use Rattle.host_sources.specs.declared.faults.Fault.{Fault}
 use Rattle.host_sources.specs.declared.locating.Passed.TheVariants as passed
-use Rattle.host_sources.proofs.PauseLemmas.{next_byte}
 use Rattle.host_sources.proofs.TextLemmas.{length_taken}
 use Rattle.host_sources.proofs.LocateLemmas.{shortest_is, refused_stays}
 
@@ -34,10 +34,6 @@ made_harmless bytes end from p is =
     (sym (length_taken bytes end (omega (arith, p.0))) ∙ ap end_place (sym short))
 
 -- ## A byte after a text
-
-grown : (text bytes : List ℕ) (b : ℕ) → text_from text (bytes ++ b ∷ []) ≡ b ∷ text_from text bytes
-grown text [] b = refl
-grown text (x ∷ bytes) b = grown (x ∷ text) bytes b
 
 pub text_more : (bytes : List ℕ) (b : ℕ) → text_of (bytes ++ b ∷ []) ≡ b ∷ text_of bytes
 text_more bytes b = grown [] bytes b

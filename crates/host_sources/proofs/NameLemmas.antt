@@ -19,6 +19,7 @@ use Rattle.pal_faults.specs.declared.assembling.Code.TheVariants.{PF}
 use Rattle.pal_asm.specs.Expressions.{Meanings, term_value, join_values, joined_values, value_after, value_of}
 use Rattle.pal_asm.specs.Places.{Source, set_by, sets_location, is_word, with_tags as tag_values, with_body as body_values, place_at, last_setting, words_since, values, values_at, is_fixed_at}
 use Rattle.pal_asm.specs.Faults.{first_of, past, fault_of_name, term_fault, terms_fault, body_fault, tags_fault, statement_fault, at_line, first_order}
+use Rattle.pal_asm.proofs.NameLemmas.{swapped}
 use Rattle.host_sources.specs.Symbols.{with_tags, with_body, symbols_of, meaning_in, Follows}
 use Rattle.host_sources.specs.NameSteps.{values_by, place_by}
 use Rattle.host_sources.proofs.PauseLemmas.{none_some}
@@ -56,12 +57,6 @@ value_none names place value (p ∷ others) part long is none =
 -- a name stands for a place, the others for what they stood for
 abbrev pub Adds : ℕ → ℕ → Meanings → Meanings → Type 0
 Adds tag place old new = (n : ℕ) → new n ≡ (if nat_eq tag n then Some place else old n)
-
-swapped : {A : Type 0} (s t : Bool) (a b : A) → (if t then a else (if s then a else b)) ≡ (if s then a else (if t then a else b))
-swapped true true a b = refl
-swapped true false a b = refl
-swapped false true a b = refl
-swapped false false a b = refl
 
 pub with_tag_more : (tags : List ℕ) (tag place : ℕ) (old new : Meanings) → Adds tag place old new → (n : ℕ) → tag_values tags place new n ≡ tag_values (tag ∷ tags) place old n
 with_tag_more [] tag place old new adds n = adds n

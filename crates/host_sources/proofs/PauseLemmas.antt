@@ -2,7 +2,6 @@
 use Rattle.std.proofs.Common.{◌≡◌, ℕ, ◌+◌, ◌≤◌, ◌<◌, nat_eq, Bool, true, false, ◌&&◌, ◌||◌, not, if◌then◌else◌, Some, None, Result, Ok, Err, suc, length, take, drop, get_or, List, [], ◌∷◌, ◌++◌, refl, ap, sym, subst, ◌∙◌, arith}
 use Rattle.std.proofs.lemmas.Bool.Decides.{nat_tests}
 use Rattle.std.proofs.lemmas.List.{take_all, take-append-drop}
-use Rattle.std.proofs.Math.Seq.{take-suc}
 use Rattle.pal_lex.specs.Text.{is_ignored, in_comment, is_dead, is_end, is_over, ends_statement, stretch, up_to_end, text_from, text_of, line_after}
 use Rattle.pal_lex.specs.Statements.{statements, first_fault, judge_statement, radix_after}
 use Rattle.pal_lex.specs.Joins.{is_pause, pauses, IsClear, first_text, before_pause}
@@ -12,6 +11,7 @@ use Rattle.pal_lex.specs.Progress.{Progress}
 use Rattle.pal_faults.specs.declared.lexical.LexFault.{LexFault}
 use Rattle.pal_faults.specs.declared.lexical.LexFault.TheVariants as lex
 use Rattle.pal_lex.specs.declared.phrases.Statement.{Statement}
+use Rattle.source_places.proofs.PlaceLemmas.{next_byte}
 use Rattle.host_sources.specs.Steps.{is_memory, end_by, Meets, is_pause_met, ends_text, Renews, IsPrefix}
 use Rattle.host_sources.specs.declared.pauses.Met.{Met}
 use Rattle.host_sources.specs.declared.pauses.Met.TheVariants.{Nothing, End, Pause}
@@ -171,17 +171,6 @@ met_fault text b fault old new none may other answers =
     (fault_ends b text fault none tells.0, tells.1 none may)
 
 -- ## The first bytes of a text
-
-grown : (text bytes : List ℕ) (b : ℕ) → text_from text (bytes ++ b ∷ []) ≡ b ∷ text_from text bytes
-grown text [] b = refl
-grown text (x ∷ bytes) b = grown (x ∷ text) bytes b
-
--- a byte more
-pub next_byte : (bytes : List ℕ) (n b : ℕ) → n < length bytes → b ≡ get_or bytes n 0 → text_of (take (n + 1) bytes) ≡ b ∷ text_of (take n bytes)
-next_byte bytes n b inside is =
-    let next : n + 1 ≡ suc n = omega arith in
-    ap (λ k. text_of (take k bytes)) next ∙ ap text_of (take-suc bytes n 0 inside) ∙ grown [] (take n bytes) (get_or bytes n 0)
-    ∙ ap (λ c. c ∷ text_of (take n bytes)) (sym is)
 
 -- bytes after others
 from_prefix : (bytes text : List ℕ) → text_from text bytes ≡ text_of bytes ++ text

@@ -8,13 +8,14 @@ use Rattle.pal_lex.specs.Runs.{are_digits, number_after}
 use Rattle.pal_lex.specs.declared.pieces.Kind.{Kind}
 use Rattle.pal_lex.specs.declared.pieces.Kind.TheVariants.{Term, Blank}
 use Rattle.pal_lex.specs.declared.pieces.Term.TheVariants.{Here}
+use Rattle.source_places.proofs.PlaceLemmas.{next_byte}
 use Rattle.host_sources.specs.Runs.{first_illegal, first_run}
 use Rattle.host_sources.specs.RunSteps.{base_of, is_wanted}
 use Rattle.host_sources.specs.RunSteps.{is_number_by, with_live, illegal_by, start_by, newest_run, newest_start, first_run_before, IsSearch}
 use Rattle.host_sources.specs.declared.runs.Wanted.{Wanted}
 use Rattle.host_sources.specs.declared.runs.Wanted.TheVariants as wanted
 use Rattle.host_sources.specs.declared.runs.Search.{Search}
-use Rattle.host_sources.proofs.StartLemmas.{next_byte, length_taken}
+use Rattle.host_sources.proofs.StartLemmas.{length_taken}
 
 -- ## Live bytes
 

@@ -1,28 +1,13 @@
 -- Where a statement begins.
-use Rattle.std.proofs.Common.{◌≡◌, ℕ, ◌+◌, ◌≤◌, ◌<◌, Bool, true, false, ◌||◌, if◌then◌else◌, Option, Some, None, unwrap_or, length, take, get_or, suc, List, [], ◌∷◌, ◌++◌, refl, ap, sym, ◌∙◌, arith}
+use Rattle.std.proofs.Common.{◌≡◌, ℕ, ◌+◌, ◌≤◌, ◌<◌, Bool, true, false, ◌||◌, if◌then◌else◌, Option, Some, None, unwrap_or, length, take, get_or, List, [], ◌∷◌, refl, ap, sym, ◌∙◌, arith}
 use Rattle.std.proofs.lemmas.List.{length-take-le, take_all}
-use Rattle.std.proofs.Math.Seq.{take-suc}
 use Rattle.std.specs.Option.{option_or}
-use Rattle.pal_lex.specs.Text.{is_ignored, in_comment, is_dead, is_end, stretch, text_from, text_of}
+use Rattle.pal_lex.specs.Text.{is_ignored, in_comment, is_dead, is_end, stretch, text_of}
 use Rattle.pal_lex.specs.Cutting.{is_space}
+use Rattle.source_places.proofs.PlaceLemmas.{next_byte, length_from}
 use Rattle.host_sources.specs.Starts.{first_solid, start_of}
 use Rattle.host_sources.specs.StartSteps.{comment_by}
 use Rattle.host_sources.specs.StartSteps.{start_by}
-
-grown : (text bytes : List ℕ) (b : ℕ) → text_from text (bytes ++ b ∷ []) ≡ b ∷ text_from text bytes
-grown text [] b = refl
-grown text (x ∷ bytes) b = grown (x ∷ text) bytes b
-
--- a byte more
-pub next_byte : (bytes : List ℕ) (n b : ℕ) → n < length bytes → b ≡ get_or bytes n 0 → text_of (take (n + 1) bytes) ≡ b ∷ text_of (take n bytes)
-next_byte bytes n b inside is =
-    let next : n + 1 ≡ suc n = omega arith in
-    ap (λ k. text_of (take k bytes)) next ∙ ap text_of (take-suc bytes n 0 inside) ∙ grown [] (take n bytes) (get_or bytes n 0)
-    ∙ ap (λ c. c ∷ text_of (take n bytes)) (sym is)
-
-pub length_from : (bytes text : List ℕ) → length (text_from text bytes) ≡ length bytes + length text
-length_from [] text = omega arith
-length_from (b ∷ bytes) text = length_from bytes (b ∷ text) ∙ omega arith
 
 pub length_taken : (bytes : List ℕ) (n : ℕ) → n ≤ length bytes → length (text_of (take n bytes)) ≡ n
 length_taken bytes n inside = length_from (take n bytes) [] ∙ ap (λ k. k + 0) (length-take-le n bytes inside) ∙ omega arith

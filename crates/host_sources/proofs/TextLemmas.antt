@@ -1,13 +1,9 @@
 -- The first bytes of a text.
-use Rattle.std.proofs.Common.{◌≡◌, ℕ, ◌+◌, ◌≤◌, ◌<◌, Bool, length, take, get_or, List, [], ◌∷◌, ap, sym, ◌∙◌, arith}
+use Rattle.std.proofs.Common.{◌≡◌, ℕ, ◌+◌, ◌≤◌, ◌<◌, Bool, length, take, get_or, List, [], ap, sym, ◌∙◌, arith}
 use Rattle.std.proofs.lemmas.List.{length-take-le, take_all}
-use Rattle.pal_lex.specs.Text.{in_comment, text_from, text_of}
+use Rattle.pal_lex.specs.Text.{in_comment, text_of}
+use Rattle.source_places.proofs.PlaceLemmas.{next_byte, length_from}
 use Rattle.host_sources.specs.StartSteps.{comment_by}
-use Rattle.host_sources.proofs.PauseLemmas.{next_byte}
-
-pub length_from : (bytes text : List ℕ) → length (text_from text bytes) ≡ length bytes + length text
-length_from [] text = omega arith
-length_from (b ∷ bytes) text = length_from bytes (b ∷ text) ∙ omega arith
 
 pub length_taken : (bytes : List ℕ) (n : ℕ) → n ≤ length bytes → length (text_of (take n bytes)) ≡ n
 length_taken bytes n inside = length_from (take n bytes) [] ∙ ap (λ k. k + 0) (length-take-le n bytes inside) ∙ omega arith

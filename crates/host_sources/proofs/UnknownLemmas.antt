@@ -16,6 +16,7 @@ use Rattle.pal_asm.specs.Places.{Source, values, values_at}
 use Rattle.pal_asm.specs.Words.{word_values}
 use Rattle.pal_asm.specs.Faults.{first_order}
 use Rattle.pal_asm.specs.Laws.{StatementsStay, NoFaultBefore}
+use Rattle.pal_lex.proofs.LawLemmas.{one_more, newest}
 use Rattle.host_sources.specs.Places.{shortest, is_refused, is_settled}
 use Rattle.host_sources.specs.Unknowns.{Standing, unknown_in, newest_unknown, unknown_ended, unknown_name}
 use Rattle.host_sources.specs.Symbols.{meaning_in, Follows}
@@ -23,7 +24,7 @@ use Rattle.host_sources.specs.JudgeSteps.{Stands}
 use Rattle.host_sources.specs.Steps.{IsMetAt, is_memory}
 use Rattle.host_sources.specs.declared.locating.Passed.TheVariants as passed
 use Rattle.host_sources.proofs.PauseLemmas.{none_ends, one_ends, whole_text, none_some, tells_fault}
-use Rattle.host_sources.proofs.LocateLemmas.{newest, one_more, handed, shortest_is, refused_stays, settled_stays, refused_whole}
+use Rattle.host_sources.proofs.LocateLemmas.{handed, shortest_is, refused_stays, settled_stays, refused_whole}
 
 -- ## What names stand for
 

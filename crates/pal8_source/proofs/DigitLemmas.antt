@@ -1,22 +1,12 @@
 -- Octal digits in a PAL8 text.
-use Rattle.std.proofs.Common.{◌≡◌, ℕ, ◌+◌, ◌*◌, ◌-◌, ◌/◌, ◌%◌, ◌<◌, nat_le, nat_lt, Bool, true, false, ◌||◌, if◌then◌else◌, zero, suc, refl, ap, ◌∙◌, arith}
+use Rattle.std.proofs.Common.{◌≡◌, ℕ, ◌+◌, ◌*◌, ◌-◌, ◌/◌, ◌%◌, ◌<◌, nat_le, nat_lt, Bool, true, false, ◌||◌, if◌then◌else◌, refl, ap, ◌∙◌, arith}
 use Rattle.std.proofs.lemmas.Bool.Decides.{nat_tests}
 use Rattle.word12.specs.Octal.{octal_digit}
 use Rattle.word12.specs.Sixbit.{is_letter}
 use Rattle.pal8_lex.specs.Text.{as_read, capital, is_dropped}
 use Rattle.pal8_lex.specs.Rules.{is_end, is_letter_or_digit}
 use Rattle.pal8_lex.specs.Runs.{longer_number}
-
-eight : (P : ℕ → Type 0) → P 0 → P 1 → P 2 → P 3 → P 4 → P 5 → P 6 → P 7 → (d : ℕ) → d < 8 → P d
-eight P a b c d e f g h zero lt = a
-eight P a b c d e f g h (suc zero) lt = b
-eight P a b c d e f g h (suc (suc zero)) lt = c
-eight P a b c d e f g h (suc (suc (suc zero))) lt = d
-eight P a b c d e f g h (suc (suc (suc (suc zero)))) lt = e
-eight P a b c d e f g h (suc (suc (suc (suc (suc zero))))) lt = f
-eight P a b c d e f g h (suc (suc (suc (suc (suc (suc zero)))))) lt = g
-eight P a b c d e f g h (suc (suc (suc (suc (suc (suc (suc zero))))))) lt = h
-eight P a b c d e f g h (suc (suc (suc (suc (suc (suc (suc (suc k)))))))) lt = absurd (omega (arith, lt))
+use Rattle.tape_source.proofs.ByteLemmas.{eight}
 
 -- what an octal digit is
 pub record IsOctal (c : ℕ) : Type 0 where

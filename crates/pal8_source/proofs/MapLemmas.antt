@@ -3,23 +3,10 @@ use Rattle.std.proofs.Common.{◌≡◌, inl, inr, ℕ, ◌<◌, ◌≤◌, fals
 use Rattle.std.proofs.lemmas.Bool.{cases_lt}
 use Rattle.std.proofs.lemmas.Bool.Decides.{eqb_tells}
 use Rattle.std.proofs.Math.ListN.{get_or-eq_default}
-use Rattle.bin_tape.specs.Items.{Item, Leader, Field, Origin, Word, IsPrefix, address_after, cell_after, field_after, tape_map}
+use Rattle.bin_tape.specs.Items.{Item, Leader, Field, Origin, Word, IsPrefix, cell_after, tape_map}
 use Rattle.flow8.specs.Flow.{word_in}
 use Rattle.tape_source.specs.Steps.{HoldsMap}
-
-field_small : (items : List Item) → IsPrefix items → field_after items < 8
-field_small [] prefix = omega arith
-field_small (Leader f ∷ older) prefix = field_small older prefix.2
-field_small (Field n ∷ older) prefix = prefix.0
-field_small (Origin high low ∷ older) prefix = field_small older prefix.2
-field_small (Word high low ∷ older) prefix = field_small older prefix.3
-
-address_small : (items : List Item) → IsPrefix items → address_after items < 4096
-address_small [] prefix = omega arith
-address_small (Leader f ∷ older) prefix = address_small older prefix.2
-address_small (Field n ∷ older) prefix = address_small older prefix.1
-address_small (Origin high low ∷ older) prefix = let h = prefix.0 in let l = prefix.1 in omega (arith, h, l)
-address_small (Word high low ∷ older) prefix = omega arith
+use Rattle.tape_source.proofs.TapeLemmas.{field_small, address_small}
 
 -- a tape gives no cell past core a word
 past : (items : List Item) → IsPrefix items → (cell : ℕ) → 32768 ≤ cell → tape_map items cell ≡ None

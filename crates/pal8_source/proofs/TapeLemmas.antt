@@ -2,21 +2,8 @@
 use Rattle.std.proofs.Common.{◌≡◌, inl, inr, ℕ, ◌+◌, ◌*◌, ◌<◌, nat_eq, Bool, true, false, if◌then◌else◌, is_some, Option, Some, None, List, [], ◌∷◌, ap, sym, ◌∙◌, arith}
 use Rattle.std.proofs.lemmas.Bool.Decides.{eqb_tells}
 use Rattle.word12.specs.declared.sizes.TheConstants.{CORE}
-use Rattle.bin_tape.specs.Items.{Item, Leader, Field, Origin, Word, IsPrefix, address_after, cell_after, field_after, tape_map}
-
-field_small : (items : List Item) → IsPrefix items → field_after items < 8
-field_small [] prefix = omega arith
-field_small (Leader f ∷ older) prefix = field_small older prefix.2
-field_small (Field n ∷ older) prefix = prefix.0
-field_small (Origin high low ∷ older) prefix = field_small older prefix.2
-field_small (Word high low ∷ older) prefix = field_small older prefix.3
-
-address_small : (items : List Item) → IsPrefix items → address_after items < 4096
-address_small [] prefix = omega arith
-address_small (Leader f ∷ older) prefix = address_small older prefix.2
-address_small (Field n ∷ older) prefix = address_small older prefix.1
-address_small (Origin high low ∷ older) prefix = let h = prefix.0 in let l = prefix.1 in omega (arith, h, l)
-address_small (Word high low ∷ older) prefix = omega arith
+use Rattle.bin_tape.specs.Items.{Item, Leader, Field, Origin, Word, IsPrefix, cell_after, tape_map}
+use Rattle.tape_source.proofs.TapeLemmas.{field_small, address_small}
 
 -- a cell that a tape gives a word is one of core
 pub in_core : (items : List Item) → IsPrefix items → (cell : ℕ) → is_some (tape_map items cell) ≡ true → cell < CORE

@@ -1,7 +1,7 @@
 -- The text in which a statement that has a fault is harmless.
 use Rattle.std.proofs.Common.{◌≡◌, ℕ, ◌+◌, ◌-◌, ◌≤◌, ◌<◌, Bool, true, false, if◌then◌else◌, Option, Some, None, Ok, length, take, drop, replicate, suc, List, [], ◌∷◌, ◌++◌, refl, sym, ap, ◌∙◌, arith, append_assoc, length-append, length-drop}
 use Rattle.std.proofs.lemmas.List.{length-replicate, length-take-le}
-use Rattle.pal_lex.specs.Text.{limit, text_from, text_of}
+use Rattle.pal_lex.specs.Text.{limit, text_of}
 use Rattle.pal8_lex.specs.Text.{as_read, is_dropped, live}
 use Rattle.pal8_lex.specs.Pieces.{ends, pieces}
 use Rattle.pal8_lex.specs.Reading.{Answers, Progress, statement_at_end}
@@ -10,12 +10,9 @@ use Rattle.pal8_lex.specs.Statements.{is_string, statement_of}
 use Rattle.pal8_lex.specs.declared.rules.End.{End}
 use Rattle.pal8_asm.specs.Sources.{Source, Statement, statement_at, statements}
 use Rattle.pal8_asm.specs.Sources as asm
+use Rattle.source_places.proofs.PlaceLemmas.{length_from}
 use Rattle.pal8_tape.specs.Marks.{begins}
 use Rattle.pal8_tape.specs.Mending.{harmless_by, harmless_in, with_blanks, with_part}
-
-length_from : (bytes text : List ℕ) → length (text_from text bytes) ≡ length bytes + length text
-length_from [] text = omega arith
-length_from (b ∷ bytes) text = length_from bytes (b ∷ text) ∙ omega arith
 
 pub length_taken : (bytes : List ℕ) (n : ℕ) → n ≤ length bytes → length (text_of (take n bytes)) ≡ n
 length_taken bytes n inside = length_from (take n bytes) [] ∙ ap (λ k. k + 0) (length-take-le n bytes inside) ∙ omega arith

@@ -1,19 +1,8 @@
 -- The column after a text.
-use Rattle.std.proofs.Common.{◌≡◌, ℕ, ◌+◌, ◌≤◌, ◌<◌, nat_eq, Bool, true, false, if◌then◌else◌, length, take, get_or, suc, List, [], ◌∷◌, ◌++◌, refl, sym, ap, ◌∙◌, arith}
-use Rattle.std.proofs.Math.Seq.{take-suc}
-use Rattle.pal_lex.specs.Text.{text_from, text_of}
+use Rattle.std.proofs.Common.{◌≡◌, ℕ, ◌+◌, ◌≤◌, ◌<◌, nat_eq, Bool, true, false, if◌then◌else◌, length, take, get_or, List, ap, arith}
+use Rattle.pal_lex.specs.Text.{text_of}
+use Rattle.source_places.proofs.PlaceLemmas.{next_byte}
 use Rattle.pal8_tape.specs.Places.{column_after, column_with}
-
-grown : (text bytes : List ℕ) (b : ℕ) → text_from text (bytes ++ b ∷ []) ≡ b ∷ text_from text bytes
-grown text [] b = refl
-grown text (x ∷ bytes) b = grown (x ∷ text) bytes b
-
--- a byte more
-pub next_byte : (bytes : List ℕ) (n b : ℕ) → n < length bytes → b ≡ get_or bytes n 0 → text_of (take (n + 1) bytes) ≡ b ∷ text_of (take n bytes)
-next_byte bytes n b inside is =
-    let next : n + 1 ≡ suc n = omega arith in
-    ap (λ k. text_of (take k bytes)) next ∙ ap text_of (take-suc bytes n 0 inside) ∙ grown [] (take n bytes) (get_or bytes n 0)
-    ∙ ap (λ c. c ∷ text_of (take n bytes)) (sym is)
 
 pub column_more : (bytes : List ℕ) (n b : ℕ) → n < length bytes → b ≡ get_or bytes n 0
     → column_after (text_of (take (n + 1) bytes)) ≡ column_with b (column_after (text_of (take n bytes)))

@@ -27,7 +27,7 @@ first_one (x ∷ others) a long first =
 abbrev pub Adds : ℕ → ℕ → Meanings → Meanings → Type 0
 Adds tag place old new = (n : ℕ) → new n ≡ (if nat_eq tag n then Some place else old n)
 
-swapped : {A : Type 0} (s t : Bool) (a b : A) → (if t then a else (if s then a else b)) ≡ (if s then a else (if t then a else b))
+pub swapped : {A : Type 0} (s t : Bool) (a b : A) → (if t then a else (if s then a else b)) ≡ (if s then a else (if t then a else b))
 swapped true true a b = refl
 swapped true false a b = refl
 swapped false true a b = refl

@@ -9,16 +9,13 @@ use Rattle.char_pack.specs.Texts.{is_ended}
 use Rattle.pal_asm.specs.Passes.{IsFirst}
 use Rattle.pal_asm.specs.Faults.{first_of, first_order, no_end}
 use Rattle.pal_faults.specs.declared.assembling.AsmFault.{AsmFault}
+use Rattle.pal_asm.proofs.TextLemmas.{nothing_read}
 use Rattle.pal_blocks.specs.Blocks.{blocks_among, blocks_of_each, first_blocks, first_among, AreFiles, assembling_turns, turn_of}
 use Rattle.pal_blocks.specs.Sources.{newest_first}
 use Rattle.pal_blocks.specs.Schedule.{joined_blocks, from_turn, known_again, fault_at_turn}
 use Rattle.pal_asm.specs.Passing.{StandsAfter, Counts}
 use Rattle.pal_blocks.specs.Progress.{Place, GoesOn, text_taken, IsAssembling}
 use Rattle.pal_blocks.specs.declared.assembling.Assembling.{Assembling}
-
-pub nothing_read : statements [] ≡ []
-unfolding statements
-nothing_read = refl
 
 pub lt_true : (a b : ℕ) → a < b → nat_lt a b ≡ true
 lt_true a b low = elim (leb_tells (suc a) b) [ inl h ↦ h.0 | inr h ↦ absurd (omega (arith, h.1, low)) ]

@@ -1,11 +1,12 @@
 -- Characters of texts and of blocks.
-use Rattle.std.proofs.Common.{◌≡◌, ◌≢◌, ◌∙◌, inl, inr, ℕ, ◌+◌, ◌*◌, ◌/◌, ◌%◌, ◌<◌, ◌≤◌, nat_eq, true, false, if◌then◌else◌, suc, List, [], ◌∷◌, ◌++◌, length, take, drop, slice_index, refl, ap, sym, arith, add-one, append_assoc, append-nil}
+use Rattle.std.proofs.Common.{◌≡◌, ◌≢◌, ◌∙◌, inl, inr, ℕ, ◌+◌, ◌*◌, ◌%◌, ◌<◌, ◌≤◌, nat_eq, true, false, if◌then◌else◌, suc, List, [], ◌∷◌, ◌++◌, length, take, drop, slice_index, refl, ap, sym, arith, add-one, append_assoc, append-nil}
 use Rattle.std.proofs.Math.Seq.{take-suc, take-add, drop-cons}
 use Rattle.std.proofs.lemmas.List.{take-append-drop, take_all, length-take-le}
 use Rattle.std.proofs.lemmas.Bool.Decides.{eqb_tells}
 use Rattle.char_pack.specs.Packing.{frames}
 use Rattle.char_pack.specs.Texts.{characters, is_ended, text}
 use Rattle.pal_lex.specs.Text.{text_from, text_of}
+use Rattle.char_pack.proofs.FrameLemmas.{length-frames}
 use Rattle.pal_blocks.specs.Blocks.{first_blocks, block_at}
 use Rattle.pal_blocks.specs.Passing.{text_in, characters_added}
 
@@ -36,12 +37,6 @@ pub all_taken : (here bytes : List ℕ) (i : ℕ) → length bytes ≤ i → tex
 all_taken here bytes i long = ap (text_from here) (take_all i bytes long)
 
 -- ## Frames
-
--- three for each two words
-pub length-frames : (words : List ℕ) → length (frames words) ≡ 3 * (length words / 2)
-length-frames [] = refl
-length-frames (first ∷ []) = refl
-length-frames (first ∷ second ∷ words) = omega (arith, length-frames words)
 
 pub block_frames : (block : List ℕ) → length block ≡ 256 → length (frames block) ≡ 384
 block_frames block whole = omega (arith, length-frames block, whole)

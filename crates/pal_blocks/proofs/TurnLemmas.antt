@@ -20,6 +20,7 @@ use Rattle.pal_asm.specs.Passes.{IsFirst}
 use Rattle.pal_faults.specs.declared.assembling.AsmFault.{AsmFault}
 use Rattle.pal_faults.specs.declared.assembling.AsmFault.TheVariants.{At, Memory}
 use Rattle.pal_asm.specs.declared.passing.Pass.{Pass}
+use Rattle.pal_asm.proofs.TextLemmas.{nothing_read}
 use Rattle.pal_blocks.specs.declared.assembling.Assembling.{Assembling}
 use Rattle.pal_blocks.specs.Blocks.{blocks_in, blocks_among, blocks_of_each, first_blocks, first_among, block_at, AreFiles, assembling_turns, turn_of}
 use Rattle.pal_blocks.specs.Sources.{texts_of, newest_first}
@@ -31,7 +32,7 @@ use Rattle.pal_asm.specs.Passing.{TellsJoinFault, HasPassed, Settles, EndsSource
 use Rattle.pal_blocks.specs.Steps.{PassesBlock}
 use Rattle.pal_blocks.specs.Progress.{due_of, block_of, Place, text_taken, IsInPass, IsFirstPass, IsSecondPass, IsAssembling}
 use Rattle.pal_blocks.specs.Turns.{TakesBlock}
-use Rattle.pal_blocks.proofs.BeginLemmas.{lt_true, lt_false, not_yet, nothing_read, no_text, as_many, has_others, nothing_more}
+use Rattle.pal_blocks.proofs.BeginLemmas.{lt_true, lt_false, not_yet, no_text, as_many, has_others, nothing_more}
 use Rattle.pal_blocks.proofs.TextLemmas.{JoinedCharacters, one_block}
 use Rattle.pal_blocks.proofs.PlaceLemmas.{among_append, files_at, each_at, all_among, IsAfter, whole_join, whole_text, told_in, told_whole, so_far, joined_least, over_none, no_pause, next_source}
 

@@ -6,9 +6,10 @@ use Rattle.std.proofs.Math.ListN.{get_or-eq_default}
 use Rattle.std.specs.List.Sorted.{IsNonDecreasingBy, IsSortedByKey}
 use Rattle.word12.specs.declared.sizes.TheConstants.{CORE}
 use Rattle.flow8.specs.Flow.{IsAmong}
+use Rattle.flow8.proofs.FlowLemmas.{among_left, among_parts, among_right}
 use Rattle.profile8.specs.Profile.{AreFetched, AreInOrder, StandsBefore, count_of}
 use Rattle.profile8.specs.CellSteps.{AreSorted, cells_below, if_fetched, rank}
-use Rattle.profile8.proofs.ListLemmas.{among_at, among_left, among_parts, among_right, among-tally, not_among-tally, tally, tally-among, tally-append, tally-less, tally-none, tally-other, tally-permutation, tally-same}
+use Rattle.profile8.proofs.ListLemmas.{among_at, among-tally, not_among-tally, tally, tally-among, tally-append, tally-less, tally-none, tally-other, tally-permutation, tally-same}
 
 -- ## The cells below a number
 

@@ -1,25 +1,11 @@
 -- Lists of cells, and how often a cell is in one.
-use Rattle.std.proofs.Common.{◌≡◌, ℕ, zero, suc, ◌+◌, ◌<◌, ◌≤◌, ◌⊎◌, inl, inr, Bool, nat_eq, if◌then◌else◌, List, [], ◌∷◌, ◌++◌, length, slice_index_or, IsPermutation, refl, ap, sym, ◌∙◌, arith}
+use Rattle.std.proofs.Common.{◌≡◌, ℕ, zero, suc, ◌+◌, ◌<◌, ◌≤◌, inl, inr, Bool, nat_eq, if◌then◌else◌, List, [], ◌∷◌, ◌++◌, length, slice_index_or, IsPermutation, refl, ap, sym, ◌∙◌, arith}
 use Rattle.std.proofs.lemmas.Bool.{cases_eq, cases_lt, eq-eqb, ne_eqb}
 use Rattle.std.proofs.lemmas.List.Recursion.{is_sum_by}
 use Rattle.std.proofs.lemmas.List.Sorted.{sum_by-IsPermutation}
 use Rattle.flow8.specs.Flow.{IsAmong}
 
 -- ## Among
-
-pub among_left : (cell : ℕ) (xs ys : List ℕ) → IsAmong cell xs → IsAmong cell (xs ++ ys)
-among_left cell [] ys is = absurd is
-among_left cell (x ∷ xs) ys (inl same) = inl same
-among_left cell (x ∷ xs) ys (inr other) = inr (among_left cell xs ys other)
-
-pub among_right : (cell : ℕ) (xs ys : List ℕ) → IsAmong cell ys → IsAmong cell (xs ++ ys)
-among_right cell [] ys is = is
-among_right cell (x ∷ xs) ys is = inr (among_right cell xs ys is)
-
-pub among_parts : (cell : ℕ) (xs ys : List ℕ) → IsAmong cell (xs ++ ys) → IsAmong cell xs ⊎ IsAmong cell ys
-among_parts cell [] ys is = inr is
-among_parts cell (x ∷ xs) ys (inl same) = inl (inl same)
-among_parts cell (x ∷ xs) ys (inr other) = elim (among_parts cell xs ys other) [ inl left ↦ inl (inr left) | inr right ↦ inr right ]
 
 -- what stands at a place
 pub among_at : (xs : List ℕ) (k d : ℕ) → k < length xs → IsAmong (slice_index_or xs k d) xs

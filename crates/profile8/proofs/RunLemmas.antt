@@ -1,5 +1,5 @@
 -- A run that counts.
-use Rattle.std.proofs.Common.{◌≡◌, ℕ, ◌+◌, zero, suc, ◌<◌, ◌≤◌, Bool, true, false, true≢false, ◌&&◌, if◌then◌else◌, List, [], ◌∷◌, length, Option, Some, None, is_some, unwrap_or, add-one, below_more, refl, ap, sym, subst, ◌∙◌, arith}
+use Rattle.std.proofs.Common.{◌≡◌, ℕ, ◌+◌, zero, suc, ◌<◌, ◌≤◌, Bool, true, false, true≢false, ◌&&◌, if◌then◌else◌, List, [], ◌∷◌, length, Option, Some, None, is_some, unwrap_or, below_more, refl, ap, sym, subst, ◌∙◌, arith}
 use Rattle.word12.specs.declared.sizes.TheConstants.{CORE}
 use Rattle.cpu8.specs.State.{State, next_cell}
 use Rattle.cpu8.specs.Laws.{runs_on}
@@ -11,6 +11,7 @@ use Rattle.terminal8.specs.Fetches.{AddsFetches}
 use Rattle.terminal8.specs.Terminal.{Terminal, after_look, next, after_step, later, last_did, is_none_left, starves, stop_of, has_halted, GoesOn, Ends, IsRun}
 use Rattle.terminal8.specs.declared.outcomes.TerminalEnd.{TerminalEnd}
 use Rattle.terminal8.specs.declared.outcomes.TerminalEnd.TheVariants as why
+use Rattle.terminal8.proofs.TerminalLemmas.{later-none, later-next, did-none, did-next}
 use Rattle.profile8.specs.Counts.{AreCounts, AreZero}
 use Rattle.profile8.specs.CountSteps.{counts_with}
 use Rattle.profile8.proofs.CountLemmas.{counts-none, counts-next, counts-more}
@@ -28,22 +29,6 @@ pub record IsCounting (t now : Terminal) (made : ℕ) (counts : List ℕ) : Type
   pub are : AreCounts made t counts
 
 -- ## Steps
-
-later-none : (t : Terminal) → later 0 t ≡ t
-unfolding later
-later-none t = refl
-
-later-next : (k : ℕ) (t : Terminal) → later (k + 1) t ≡ next (later k t)
-unfolding later
-later-next k t = rw add-one refl
-
-did-none : (t : Terminal) → last_did 0 t ≡ (if t.machine.running then Ran None else Stopped)
-unfolding last_did
-did-none t = refl
-
-did-next : (k : ℕ) (t : Terminal) → last_did (k + 1) t ≡ (after_step (later k t)).1
-unfolding last_did
-did-next k t = rw add-one refl
 
 -- ## How long ago the program asked for a key
 

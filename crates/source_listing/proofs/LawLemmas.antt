@@ -15,12 +15,13 @@ use Rattle.pal_asm.specs.Words.{offset_of, offset_to, with_offset, body_word, ce
 use Rattle.pal_asm.specs.Faults.{first_of, at_line, first_order, no_offset, out_of_reach, terms_fault, word_fault, words_fault, no_end, no_word, fault_of}
 use Rattle.host_sources.specs.Sources.{newest_first}
 use Rattle.host_sources.specs.Laws.{FineTermsHaveValue}
+use Rattle.pal_lex.proofs.LawLemmas.{one_more, newest}
+use Rattle.host_sources.proofs.NameLemmas.{first_none, line_none}
 use Rattle.source_listing.specs.Rows.{Row, is_newest_word, ends_word}
 use Rattle.source_listing.specs.Listings.{rows_of}
 use Rattle.source_listing.specs.References.{spot_by}
 use Rattle.source_listing.specs.Laws.{words_at, word_count, lines, all_lines, row_spots, line_spots, word_spots, end_spots, WordsAreListed}
 use Rattle.source_listing.specs.declared.spots.Spot.{Spot}
-use Rattle.source_listing.proofs.TextLemmas.{newest, one_more, first_none, line_none}
 use Rattle.source_listing.proofs.RowLemmas.{lines_listed}
 use Rattle.source_listing.proofs.StandLemmas.{length-rows, length-line_spots, words_standing}
 

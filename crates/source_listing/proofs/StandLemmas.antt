@@ -8,6 +8,7 @@ use Rattle.pal_lex.specs.Text.{text_from, text_of}
 use Rattle.pal_lex.specs.Joins.{before_pause, text_with_next, join_of}
 use Rattle.source_places.specs.Places.{further, place_in, bytes_of, next_line, before_place}
 use Rattle.host_sources.specs.Sources.{texts_of, newest_first, counts_by, counts_of}
+use Rattle.source_places.proofs.PlaceLemmas.{length_from}
 use Rattle.source_listing.specs.Rows.{Row, ends_word, word_ends, first_end, two_ends, rows, own_ends, later_ends, all_rows}
 use Rattle.source_listing.specs.References.{spot_by, mentions}
 use Rattle.source_listing.specs.SpotSteps.{byte_spots, all_spots, no_spot}
@@ -15,7 +16,6 @@ use Rattle.source_listing.specs.Laws.{in_front, lines, row_lines, line_spots, ro
 use Rattle.source_listing.specs.declared.spots.Spot.{Spot}
 use Rattle.source_listing.proofs.RowLemmas.{some_line, lines_by_row, own_none, later_none, prefix_shorter, length_ends}
 use Rattle.source_listing.proofs.ReferenceLemmas.{same_mentions}
-use Rattle.source_listing.proofs.TextLemmas.{length_from}
 
 -- ## The spots of bytes that end words
 

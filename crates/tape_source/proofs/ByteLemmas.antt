@@ -87,7 +87,7 @@ coded_are_legal (b ∷ bytes) e =
 
 -- ## Octal digits
 
-eight : (P : ℕ → Type 0) → P 0 → P 1 → P 2 → P 3 → P 4 → P 5 → P 6 → P 7 → (d : ℕ) → d < 8 → P d
+pub eight : (P : ℕ → Type 0) → P 0 → P 1 → P 2 → P 3 → P 4 → P 5 → P 6 → P 7 → (d : ℕ) → d < 8 → P d
 eight P a b c d e f g h zero lt = a
 eight P a b c d e f g h (suc zero) lt = b
 eight P a b c d e f g h (suc (suc zero)) lt = c

@@ -34,14 +34,14 @@ abbrev pub Fits : Option ℕ → ℕ → Type 0
 Fits None cell = Unit {0}
 Fits (Some word) cell = (word < 4096) × (cell < 32768)
 
-field_small : (items : List Item) → IsPrefix items → field_after items < 8
+pub field_small : (items : List Item) → IsPrefix items → field_after items < 8
 field_small [] prefix = omega arith
 field_small (Leader f ∷ older) prefix = field_small older prefix.2
 field_small (Field n ∷ older) prefix = prefix.0
 field_small (Origin high low ∷ older) prefix = field_small older prefix.2
 field_small (Word high low ∷ older) prefix = field_small older prefix.3
 
-address_small : (items : List Item) → IsPrefix items → address_after items < 4096
+pub address_small : (items : List Item) → IsPrefix items → address_after items < 4096
 address_small [] prefix = omega arith
 address_small (Leader f ∷ older) prefix = address_small older prefix.2
 address_small (Field n ∷ older) prefix = address_small older prefix.1

@@ -14,11 +14,8 @@ use Rattle.cpu8.specs.declared.outcomes.Stepped.TheVariants.{Stopped, Interrupte
 use Rattle.flow8.specs.Flow.{IsAmong}
 use Rattle.terminal8.specs.Asks.{asks_for_key}
 use Rattle.terminal8.specs.Terminal.{Terminal, after_attention, after_look, after_step}
+use Rattle.flow8.proofs.LawLemmas.{either}
 use Rattle.trace8.specs.Stores.{cells_of, changing_cells}
-
-pub either : {A : Type 0} (P : A → Type 0) (b : Bool) (x y : A) → P x → P y → P (if b then x else y)
-either P true x y px py = px
-either P false x y px py = py
 
 -- ## Cells of core
 

@@ -1,5 +1,5 @@
 -- A trace, as far as it has come.
-use Rattle.std.proofs.Common.{◌≡◌, inl, inr, ℕ, ◌+◌, ◌<◌, ◌≤◌, Bool, true, false, if◌then◌else◌, Option, Some, None, unwrap_or, Ok, Err, List, [], ◌∷◌, ◌++◌, append-nil, append_assoc, add-one, refl, ap, sym, subst, ◌∙◌, arith, below_more}
+use Rattle.std.proofs.Common.{◌≡◌, inl, inr, ℕ, ◌+◌, ◌<◌, ◌≤◌, Bool, true, false, if◌then◌else◌, Option, Some, None, unwrap_or, Ok, Err, List, [], ◌∷◌, ◌++◌, append-nil, append_assoc, refl, ap, sym, subst, ◌∙◌, arith, below_more}
 use Rattle.std.specs.Io.KnownBytes.{Appends}
 use Rattle.cpu8.specs.State.{State}
 use Rattle.cpu8.specs.Laws.{runs_on}
@@ -10,6 +10,7 @@ use Rattle.terminal8.specs.Terminal.{Terminal, has_halted, last_did, later, afte
 use Rattle.terminal8.specs.declared.outcomes.Ended.{Ended}
 use Rattle.terminal8.specs.declared.outcomes.TerminalEnd.{TerminalEnd}
 use Rattle.terminal8.specs.declared.outcomes.TerminalEnd.TheVariants as why
+use Rattle.terminal8.proofs.TerminalLemmas.{later-none, later-next, did-none, did-next}
 use Rattle.trace8.specs.Trace.{next_line, trace_lines}
 use Rattle.trace8.specs.Tracing.{Traces}
 use Rattle.trace8.specs.TracingSteps.{AreLines, HandsOn, TracesInto}
@@ -18,22 +19,6 @@ use Rattle.trace8.specs.declared.faults.TraceFault.TheVariants.{Memory, Writer}
 use Rattle.trace8.proofs.LineLemmas.{lines-next, lines-none}
 
 -- ## Steps of a terminal
-
-later-none : (t : Terminal) → later 0 t ≡ t
-unfolding later
-later-none t = refl
-
-later-next : (k : ℕ) (t : Terminal) → later (k + 1) t ≡ next (later k t)
-unfolding later
-later-next k t = rw add-one refl
-
-did-none : (t : Terminal) → last_did 0 t ≡ (if t.machine.running then Ran None else Stopped)
-unfolding last_did
-did-none t = refl
-
-did-next : (k : ℕ) (t : Terminal) → last_did (k + 1) t ≡ (after_step (later k t)).1
-unfolding last_did
-did-next k t = rw add-one refl
 
 looked-since : (s : State) (looks : List (Option ℕ)) → (after_look s looks).since ≡ 0
 looked-since s [] = refl

@@ -17,7 +17,8 @@ use Rattle.terminal8e.specs.Terminal.{Terminal, after_step}
 use Rattle.terminal8e.specs.TerminalSteps.{after_attention, after_look}
 use Rattle.trace8.specs.Stores.{changing_cells}
 use Rattle.trace8.proofs.ChangeLemmas as pdp8i
-use Rattle.trace8.proofs.ChangeLemmas.{either, changed_at}
+use Rattle.trace8.proofs.ChangeLemmas.{changed_at}
+use Rattle.flow8.proofs.LawLemmas.{either}
 
 -- ## Instructions
 

@@ -12,6 +12,7 @@ use Rattle.char_pack.specs.Packing.{frames}
 use Rattle.core_load.specs.Loading as load
 use Rattle.core_load.specs.Load.{IsFed, IsFine, IsComplete, IsLoaded, IsOverlaid}
 use Rattle.pal_blocks.specs.Blocks.{blocks_in, first_blocks}
+use Rattle.pal_blocks.proofs.TextLemmas.{frames-append, one_block}
 use Rattle.volume_jobs.specs.Schedule.{IsMet, IsMetNone, IsFirstMet}
 use Rattle.pal_blocks.specs.Blocks.{block_at}
 use Rattle.volume_jobs.specs.Reading.{frames_taken, HasTaken, IsLoading}
@@ -20,7 +21,6 @@ use Rattle.volume_jobs.specs.declared.loading.Loading.{Loading}
 use Rattle.volume_jobs.specs.declared.faults.JobFault.{JobFault}
 use Rattle.volume_jobs.specs.declared.faults.JobFault.TheVariants as fault
 use Rattle.volume_jobs.specs.Faults.{fault_of_tape}
-use Rattle.volume_jobs.proofs.FrameLemmas.{frames-append, one_block}
 
 -- the laws of tapes that are used
 abbrev pub NoFault : Type 0

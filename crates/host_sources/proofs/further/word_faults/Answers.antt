@@ -3,10 +3,10 @@ use Rattle.pal_lex.specs.Text.{text_of}
 use Rattle.pal_lex.specs.Statements.{statements}
 use Rattle.pal_lex.specs.Reading.{HasRead}
 use Rattle.pal_lex.specs.Progress.{Setting}
+use Rattle.source_places.proofs.PlaceLemmas.{next_byte}
+use Rattle.pal_asm.proofs.TextLemmas.{nothing_read}
 use Rattle.host_sources.specs.Symbols.{meaning_in, Follows}
 use Rattle.host_sources.specs.JudgeSteps.{faults_of_words}
-use Rattle.host_sources.proofs.LocateLemmas.{nothing_read}
-use Rattle.host_sources.proofs.PauseLemmas.{next_byte}
 use Rattle.host_sources.proofs.ReadingLemmas.{fine_order}
 use Rattle.host_sources.proofs.FurtherLemmas.{judged_more}
 use Rattle.host_sources.proofs.further.word_faults.Goals as goal

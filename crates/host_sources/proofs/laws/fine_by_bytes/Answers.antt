@@ -1,7 +1,7 @@
 use Rattle.std.proofs.Common.{get_or, refl, ap, ◌∙◌}
 use Rattle.pal_lex.specs.Statements.{statements}
 use Rattle.pal_asm.specs.Faults.{first_order}
-use Rattle.host_sources.proofs.PauseLemmas.{next_byte}
+use Rattle.source_places.proofs.PlaceLemmas.{next_byte}
 use Rattle.host_sources.proofs.ReadingLemmas.{fine_order}
 use Rattle.host_sources.proofs.laws.fine_by_bytes.Goals as goal
 

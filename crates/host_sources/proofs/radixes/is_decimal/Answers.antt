@@ -3,9 +3,9 @@ use Rattle.pal_lex.specs.Text.{text_of}
 use Rattle.pal_lex.specs.Statements.{radix_after, statements}
 use Rattle.pal_lex.specs.Reading.{HasRead}
 use Rattle.pal_lex.specs.Progress.{Setting}
+use Rattle.source_places.proofs.PlaceLemmas.{next_byte}
+use Rattle.pal_asm.proofs.TextLemmas.{nothing_read}
 use Rattle.host_sources.specs.RadixSteps as spec
-use Rattle.host_sources.proofs.LocateLemmas.{nothing_read}
-use Rattle.host_sources.proofs.PauseLemmas.{next_byte}
 use Rattle.host_sources.proofs.ReadingLemmas.{fine_order}
 use Rattle.host_sources.proofs.radixes.is_decimal.Goals as goal
 

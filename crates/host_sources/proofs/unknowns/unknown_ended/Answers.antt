@@ -2,8 +2,8 @@ use Rattle.std.proofs.Common.{◌∷◌, get_or, refl, ap, sym, ◌∙◌}
 use Rattle.pal_lex.specs.Text.{text_of}
 use Rattle.pal_lex.specs.Statements.{statements}
 use Rattle.pal_asm.specs.Faults.{first_order}
+use Rattle.source_places.proofs.PlaceLemmas.{next_byte}
 use Rattle.host_sources.specs.Unknowns.{unknown_ended}
-use Rattle.host_sources.proofs.PauseLemmas.{next_byte}
 use Rattle.host_sources.proofs.unknowns.unknown_ended.Goals as goal
 
 pub returns-clause-name : goal.returns-clause-name

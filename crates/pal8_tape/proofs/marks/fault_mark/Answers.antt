@@ -2,8 +2,8 @@ use Rattle.std.proofs.Common.{take, get_or, refl, ap, sym, subst, ◌∙◌}
 use Rattle.pal_lex.specs.Text.{text_of}
 use Rattle.pal8_lex.specs.Reading.{HasRead}
 use Rattle.pal8_lex.specs.Statements.{statements}
+use Rattle.source_places.proofs.PlaceLemmas.{next_byte}
 use Rattle.pal8_tape.specs.Marks.{mark_in}
-use Rattle.pal8_tape.proofs.PlaceLemmas.{next_byte}
 use Rattle.pal8_tape.proofs.marks.fault_mark.Goals as goal
 
 pub loop-taken-preserved : goal.loop-taken-preserved

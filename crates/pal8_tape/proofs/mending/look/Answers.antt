@@ -2,10 +2,10 @@ use Rattle.std.proofs.Common.{Bool, Ok, if◌then◌else◌, take, get_or, refl,
 use Rattle.pal_lex.specs.Text.{text_of}
 use Rattle.pal8_lex.specs.Reading.{Answers, HasRead}
 use Rattle.pal8_asm.specs.Sources.{statements}
+use Rattle.source_places.proofs.PlaceLemmas.{next_byte}
 use Rattle.pal8_tape.specs.Marks.{begins}
 use Rattle.pal8_tape.specs.Mending.{harmless_by, harmless_in}
 use Rattle.pal8_tape.specs.MendSteps.{text_in}
-use Rattle.pal8_tape.proofs.PlaceLemmas.{next_byte}
 use Rattle.pal8_tape.proofs.MendLemmas.{found_more, length_taken, statement_goes_on}
 use Rattle.pal8_tape.proofs.mending.look.Goals as goal
 
