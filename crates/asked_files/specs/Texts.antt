@@ -5,7 +5,6 @@ use Rattle.archive_files.specs.declared.forms.GetForm.{GetForm}
 use Rattle.archive_files.specs.declared.forms.GetForm.TheVariants as get_as
 use Rattle.archive_files.specs.declared.forms.PutForm.{PutForm}
 use Rattle.archive_files.specs.declared.forms.PutForm.TheVariants as put_as
-use Rattle.refusals.specs.declared.faults.SessionFault.TheVariants.{Memory}
 use Rattle.archive_many.specs.Extensions.{is_text, AreLists, IsFirstBad}
 use Rattle.archive_many.specs.Naming.{is_named}
 use Rattle.archive_many.specs.declared.opened.VolumeFile.{VolumeFile}
@@ -13,9 +12,10 @@ use Rattle.outcome.specs.Notes.{name_text}
 use Rattle.outcome.specs.declared.notes.NameNote.{NameNote}
 use Rattle.outcome.specs.declared.notes.NameNote.TheVariants.{BadExtensions}
 use Rattle.outcome.specs.declared.endings.Ending.{Ending}
-use Rattle.outcome.specs.declared.endings.Ending.TheVariants.{Fault, Misuse}
+use Rattle.outcome.specs.declared.endings.Ending.TheVariants.{Misuse}
 use Rattle.program_tasks.specs.declared.forms.GetManyForm.{GetManyForm}
 use Rattle.program_tasks.specs.declared.forms.TextsForm.{TextsForm}
+use Rattle.image_files.specs.Work.{Lacks}
 
 -- the lists of extensions that are given
 abbrev pub lists_of : TextsForm → List (List ℕ)
@@ -34,7 +34,7 @@ TellsBadList (Some list) old new = (ok : Bool) × (new ≡ tell_call ok (name_te
 abbrev pub TakesLists : TextsForm → List Event → Result (Unit {0}) Ending → List Event → Type 0
 TakesLists texts old (Ok it) new = AreLists (lists_of texts) × (new ≡ old)
 TakesLists texts old (Err ending) new = ((ending ≡ Misuse) × (place : ℕ) × IsFirstBad (lists_of texts) place × TellsBadList (slice_get (lists_of texts) place) old new)
-    ⊎ ((ending ≡ Fault Memory) × (new ≡ old))
+    ⊎ Lacks old ending new
 
 -- a note says which file goes as frames, if one does where others are texts
 abbrev pub TellsFrames : NameNote → Bool → List ℕ → List Event → List Event → Type 0

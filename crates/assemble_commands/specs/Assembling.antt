@@ -1,5 +1,5 @@
 -- The command that assembles sources to a tape, and lists them if that is asked for.
-use Rattle.std.specs.Prelude.{◌≡◌, ◌⊎◌, ℕ, Bool, true, false, Option, None, Some, String, is_some, Result, Ok, Err, List, [], ◌∷◌, map}
+use Rattle.std.specs.Prelude.{◌≡◌, ℕ, Bool, true, false, Option, None, Some, String, is_some, Result, Ok, Err, List, [], ◌∷◌, map}
 use Rattle.std.specs.Borrow.{Bor}
 use Rattle.std.specs.Global.{Vec, Global}
 use Rattle.hosts.specs.Event.{Event}
@@ -15,12 +15,11 @@ use Rattle.pal8_listing.specs.NotesTexts.{notes_text}
 use Rattle.pal8_tape.specs.Answers as pal8
 use Rattle.pal8_tape.specs.declared.faults.SourceFault as pal8_fault
 use Rattle.pal8_tape.specs.declared.faults.SourceFault.TheVariants as pal8_is
-use Rattle.refusals.specs.declared.faults.SessionFault.TheVariants.{Memory}
 use Rattle.outcome.specs.declared.endings.Ending.{Ending}
-use Rattle.outcome.specs.declared.endings.Ending.TheVariants.{Fault, Failure}
+use Rattle.outcome.specs.declared.endings.Ending.TheVariants.{Failure}
 use Rattle.program_tasks.specs.declared.forms.ImageForm.{ImageForm}
 use Rattle.program_tasks.specs.declared.tasks.AssembleForm.{AssembleForm}
-use Rattle.image_files.specs.Work.{Then, Purely}
+use Rattle.image_files.specs.Work.{Then, Purely, Lacks, OrLacks, EndsBy}
 use Rattle.image_files.specs.Ending.{TellsLine}
 use Rattle.image_files.specs.Reading.{LooksAt, Opens}
 use Rattle.image_files.specs.Saving.{IsDone}
@@ -35,12 +34,12 @@ use Rattle.assemble_commands.specs.declared.assembling.Assembled.{Assembled}
 
 -- the faults of sources are printed on standard error, unless memory is wanted for their text
 abbrev pub PrintsFaults : List ℕ → List Event → Ending → List Event → Type 0
-PrintsFaults text old ending new = ((ending ≡ Failure) × TellsLine text old new) ⊎ ((ending ≡ Fault Memory) × (new ≡ old))
+PrintsFaults text = OrLacks (EndsBy Failure (TellsLine text))
 
 -- why sources of PAL III are not assembled
 abbrev pub RefusesSources : List (Bor (List ℕ)) → List (Bor (List ℕ)) → pal3_fault.SourceFault → List Event → Ending → List Event → Type 0
 RefusesSources sources names (pal3_is.At fault) old ending new = PrintsFaults (faults_text sources names fault) old ending new
-RefusesSources sources names pal3_is.Memory old ending new = (ending ≡ Fault Memory) × (new ≡ old)
+RefusesSources sources names pal3_is.Memory old ending new = Lacks old ending new
 
 -- the form of a listing
 abbrev pub listing_form : Bool → ListingForm
@@ -61,7 +60,7 @@ MakesPal3 is_listed is_cross sources names old (Err ending) new = (fault : pal3_
 -- why sources of PAL8 are not assembled
 abbrev pub RefusesPal8 : Options → List (Bor (List ℕ)) → List (Bor (List ℕ)) → pal8_fault.SourceFault → List Event → Ending → List Event → Type 0
 RefusesPal8 options sources names (pal8_is.At fault) old ending new = PrintsFaults (pal8_faults_text options sources names fault) old ending new
-RefusesPal8 options sources names pal8_is.Memory old ending new = (ending ≡ Fault Memory) × (new ≡ old)
+RefusesPal8 options sources names pal8_is.Memory old ending new = Lacks old ending new
 
 -- how PAL8 is read
 abbrev pub options_of : AssembleForm → Options
@@ -93,7 +92,7 @@ TellsAny (b ∷ lines) old new = TellsLine (b ∷ lines) old new
 -- the notes on PAL8 sources are printed, unless memory is wanted for their text
 abbrev pub TellsNotes : Options → List (Bor (List ℕ)) → List (Bor (List ℕ)) → List Event → Result (Unit {0}) Ending → List Event → Type 0
 TellsNotes options sources names old (Ok it) new = TellsAny (notes_text options sources names) old new
-TellsNotes options sources names old (Err ending) new = (ending ≡ Fault Memory) × (new ≡ old)
+TellsNotes options sources names old (Err ending) new = Lacks old ending new
 
 -- they are printed if they are asked for
 abbrev pub NotesIf : Bool → Options → List (Bor (List ℕ)) → List (Bor (List ℕ)) → List Event → Result (Unit {0}) Ending → List Event → Type 0

@@ -1,16 +1,16 @@
 -- Which words of the command would have two things written to one place, or one over a source (this project's profile).
-use Rattle.std.specs.Prelude.{◌≡◌, ◌⊎◌, ℕ, Bool, false, not, ◌&&◌, ◌||◌, if◌then◌else◌, Option, None, Some, is_some, option_map, String, codes, Result, Ok, Err, List, [], ◌∷◌}
+use Rattle.std.specs.Prelude.{◌≡◌, ℕ, Bool, false, not, ◌&&◌, ◌||◌, if◌then◌else◌, Option, None, Some, is_some, option_map, String, codes, Result, Ok, Err, List, [], ◌∷◌}
 use Rattle.std.specs.Global.{Global}
 use Rattle.std.specs.Str.{bytes_eq}
-use Rattle.hosts.specs.Event.{Event, tell_call}
+use Rattle.hosts.specs.Event.{Event}
 use Rattle.outcome.specs.Notes.{name_text}
 use Rattle.outcome.specs.declared.notes.NameNote.{NameNote}
 use Rattle.outcome.specs.declared.notes.NameNote.TheVariants.{OnePlace, OverSource}
 use Rattle.outcome.specs.declared.endings.Ending.{Ending}
-use Rattle.outcome.specs.declared.endings.Ending.TheVariants.{Fault, Misuse}
+use Rattle.outcome.specs.declared.endings.Ending.TheVariants.{Misuse}
 use Rattle.program_tasks.specs.declared.forms.ImageForm.{ImageForm}
 use Rattle.program_tasks.specs.declared.tasks.AssembleForm.{AssembleForm}
-use Rattle.refusals.specs.declared.faults.SessionFault.TheVariants.{Memory}
+use Rattle.image_files.specs.Work.{OrLacks, EndsTelling}
 
 -- the name of a standard stream where a file's may stand
 abbrev pub standard : List ℕ
@@ -77,7 +77,7 @@ clash_of form = if is_one_place form then Some (OnePlace, tape_place form.output
 
 -- words that clash at a name are refused with a note, unless memory is wanted for that
 abbrev pub IsRefusedAt : NameNote → List ℕ → List Event → Ending → List Event → Type 0
-IsRefusedAt note name old ending new = ((ending ≡ Misuse) × (ok : Bool) × (new ≡ tell_call ok (name_text note name) ∷ old)) ⊎ ((ending ≡ Fault Memory) × (new ≡ old))
+IsRefusedAt note name = OrLacks (EndsTelling Misuse (name_text note name))
 
 abbrev pub IsRefused : Option (NameNote × List ℕ) → List Event → Ending → List Event → Type 0
 IsRefused None old ending new = ⊥

@@ -15,7 +15,7 @@ use Rattle.outcome.specs.Notes.{name_text}
 use Rattle.outcome.specs.declared.notes.NameNote.TheVariants.{NoSource}
 use Rattle.outcome.specs.declared.endings.Ending.{Ending}
 use Rattle.outcome.specs.declared.endings.Ending.TheVariants as ending
-use Rattle.image_files.specs.Work.{Then, Purely}
+use Rattle.image_files.specs.Work.{Then, Purely, Lacks, OrLacks, EndsTelling}
 use Rattle.image_files.specs.Answers.{Refuses}
 use Rattle.image_files.specs.Inputs.{TakesInput}
 use Rattle.image_files.specs.Reading.{Looks}
@@ -37,7 +37,7 @@ is_unread ending.Misuse = false
 -- a source that can't be read is named, unless memory is wanted for that or was wanted before
 abbrev pub NamesIf : Bool → List ℕ → Ending → List Event → Ending → List Event → Type 0
 NamesIf false name why old ended new = (ended ≡ why) × (new ≡ old)
-NamesIf true name why old ended new = ((ended ≡ why) × (ok : Bool) × (new ≡ tell_call ok (name_text NoSource name) ∷ old)) ⊎ ((ended ≡ ending.Fault Memory) × (new ≡ old))
+NamesIf true name why old ended new = OrLacks (EndsTelling why (name_text NoSource name)) old ended new
 
 abbrev pub NamesUnread : List ℕ → Ending → List Event → Ending → List Event → Type 0
 NamesUnread name why old ended new = NamesIf (is_unread why) name why old ended new
@@ -57,7 +57,7 @@ ReadsIf false name old result new = ReadsFile name old result new
 
 -- a file of a volume that is no source is named, and refused
 abbrev pub RefusesSource : List ℕ → ArchiveFault → ℕ → List Event → Ending → List Event → Type 0
-RefusesSource name fault size old ended new = ((ok : Bool) × Refuses fault size (tell_call ok (name_text NoSource name) ∷ old) ended new) ⊎ ((ended ≡ ending.Fault Memory) × (new ≡ old))
+RefusesSource name fault size old ended new = ((ok : Bool) × Refuses fault size (tell_call ok (name_text NoSource name) ∷ old) ended new) ⊎ Lacks old ended new
 
 -- the file of a name, unless memory is wanted for that
 abbrev pub IsAsked : List ℕ → Result Asked Ending → Type 0

@@ -16,7 +16,7 @@ use Rattle.outcome.specs.declared.notes.NameNote.TheVariants.{NotDeleted}
 use Rattle.outcome.specs.declared.endings.Ending.{Ending}
 use Rattle.outcome.specs.declared.endings.Ending.TheVariants.{Fault}
 use Rattle.program_tasks.specs.declared.forms.DeleteForm.{DeleteForm}
-use Rattle.image_files.specs.Work.{Then, Purely}
+use Rattle.image_files.specs.Work.{Then, Purely, Lacks}
 use Rattle.image_files.specs.Answers.{Answers}
 use Rattle.asked_files.specs.Asking.{AreNamed}
 
@@ -60,7 +60,7 @@ RefusesWish form (wish.Block block) old ending new = (ending ≡ Fault (File Not
 -- the files that are asked for, where each is found; else the first that asks for none is refused, unless memory is wanted
 abbrev pub FindsAll : DeleteForm → List Wish → List Event → Result (Vec Asked) Ending → List Event → Type 0
 FindsAll form wishes old (Ok files) new = (first_unfound wishes ≡ None) × (map target_of files.items ≡ map by_place (found_files wishes)) × (new ≡ old)
-FindsAll form wishes old (Err ending) new = ((one : Wish) × (first_unfound wishes ≡ Some one) × RefusesWish form one old ending new) ⊎ ((ending ≡ Fault Memory) × (new ≡ old))
+FindsAll form wishes old (Err ending) new = ((one : Wish) × (first_unfound wishes ≡ Some one) × RefusesWish form one old ending new) ⊎ Lacks old ending new
 
 -- ## Which files are meant
 

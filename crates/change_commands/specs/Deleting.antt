@@ -2,7 +2,7 @@
 use Rattle.std.specs.Prelude.{◌≡◌, ◌⊎◌, ℕ, Result, Ok, Err, List, [], ◌∷◌, ◌++◌, length, map}
 use Rattle.hosts.specs.Event.{Event}
 use Rattle.program_reports.specs.Program.{program_line}
-use Rattle.refusals.specs.declared.faults.SessionFault.TheVariants.{File, Memory}
+use Rattle.refusals.specs.declared.faults.SessionFault.TheVariants.{File}
 use Rattle.program_reports.specs.declared.programs.ProgramLine.TheVariants as line
 use Rattle.archive_files.specs.Asking.{Target, target_of}
 use Rattle.archive_files.specs.Deleting.{DeletesFiles}
@@ -12,7 +12,7 @@ use Rattle.archive_files.specs.declared.faults.DeleteFault.TheVariants.{Archive,
 use Rattle.outcome.specs.declared.endings.Ending.{Ending}
 use Rattle.outcome.specs.declared.endings.Ending.TheVariants.{Fault}
 use Rattle.program_tasks.specs.declared.forms.DeleteForm.{DeleteForm}
-use Rattle.image_files.specs.Work.{Then}
+use Rattle.image_files.specs.Work.{Then, Lacks}
 use Rattle.image_files.specs.Answers.{Refuses}
 use Rattle.change_commands.specs.Choosing.{MeansFiles, TellsRefused, one_of_several}
 use Rattle.change_commands.specs.Changing.{Changes}
@@ -27,7 +27,7 @@ abbrev pub TakesOut : List Target → List ℕ → List Event → Result Deleted
 TakesOut wanted image old (Ok it) new = DeletesFiles image wanted (Ok it) × (new ≡ old)
 TakesOut wanted image old (Err ending) new =
     ((fault : DeleteFault) × DeletesFiles image wanted (Err fault) × RefusesFile wanted fault (length image) old ending new)
-    ⊎ ((ending ≡ Fault Memory) × (new ≡ old))
+    ⊎ Lacks old ending new
 
 -- the line of each file that was taken out
 abbrev pub deleted_lines : List ℕ → List ℕ

@@ -6,11 +6,9 @@ use Rattle.word12.specs.Octal.{octal4}
 use Rattle.block_words.specs.Patching.{Patches}
 use Rattle.block_words.specs.declared.faults.PatchFault.{PatchFault}
 use Rattle.block_words.specs.declared.faults.PatchFault.TheVariants.{NoBlock, NoWord, OtherWord}
-use Rattle.refusals.specs.declared.faults.SessionFault.TheVariants.{Memory}
 use Rattle.program_tasks.specs.declared.forms.ImageForm.{ImageForm}
 use Rattle.outcome.specs.declared.endings.Ending.{Ending}
-use Rattle.outcome.specs.declared.endings.Ending.TheVariants.{Fault}
-use Rattle.image_files.specs.Work.{Then, Purely}
+use Rattle.image_files.specs.Work.{Then, Purely, Lacks, OrLacks}
 use Rattle.image_files.specs.Reading.{Opens}
 use Rattle.image_files.specs.Saving.{Stores}
 use Rattle.image_files.specs.Answers.{AreLines}
@@ -31,13 +29,13 @@ patched_text wanted =
 
 -- why a word is not patched is printed; or memory was wanted for that
 abbrev pub RefusesPatch : PatchFault → List Event → Ending → List Event → Type 0
-RefusesPatch fault old ending new = EndsWith (fault_text fault) old ending new ⊎ ((ending ≡ Fault Memory) × (new ≡ old))
+RefusesPatch fault = OrLacks (EndsWith (fault_text fault))
 
 -- the image with the word in its place, each other byte as it was; or why not
 abbrev pub GivesPatched : WordPatch → List ℕ → List Event → Result (Vec ℕ) Ending → List Event → Type 0
 GivesPatched wanted image old (Ok bytes) new = Patches image wanted.block wanted.number wanted.old wanted.new (Ok tt) bytes.items × (new ≡ old)
 GivesPatched wanted image old (Err ending) new =
-    ((ending ≡ Fault Memory) × (new ≡ old))
+    Lacks old ending new
     ⊎ ((fault : PatchFault) × Patches image wanted.block wanted.number wanted.old wanted.new (Err fault) image × RefusesPatch fault old ending new)
 
 -- An image file is held and read. The image with the word in its place is saved, and only then its line is printed.

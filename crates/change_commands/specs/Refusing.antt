@@ -17,6 +17,7 @@ use Rattle.outcome.specs.declared.endings.Ending.{Ending}
 use Rattle.outcome.specs.declared.endings.Ending.TheVariants.{Fault, Line}
 use Rattle.program_reports.specs.declared.programs.ProgramLine.TheVariants.{CopyExists}
 use Rattle.program_tasks.specs.declared.forms.CopyManyForm.{CopyManyForm}
+use Rattle.image_files.specs.Work.{Lacks, OrLacks, EndsBy}
 use Rattle.image_files.specs.Pairs.{IsOneRefused}
 
 -- ## A word of no file
@@ -43,8 +44,8 @@ TellsFile file old new = (text : List ℕ) × NamesHost file text × (ok : Bool)
 -- bytes the one and of so many the other. Where memory is wanted for a note, that ends the command.
 abbrev pub RefusesCopies : CopyManyForm → CopyAllFault → ℕ → ℕ → List Event → Ending → List Event → Type 0
 RefusesCopies form (To fault) from to old ending new = IsOneRefused form.to.file.bytes.items fault to old ending new
-RefusesCopies form (Exists file) from to old ending new = ((ending ≡ Line CopyExists) × TellsFile file old new) ⊎ ((ending ≡ Fault session.Memory) × (new ≡ old))
+RefusesCopies form (Exists file) from to old ending new = OrLacks (EndsBy (Line CopyExists) (TellsFile file)) old ending new
 RefusesCopies form (File file (From fault)) from to old ending new = IsOneRefused form.image.file.bytes.items fault from old ending new
 RefusesCopies form (File file (one.To fault)) from to old ending new =
-    ((between : List Event) × TellsFile file old between × IsOneRefused form.to.file.bytes.items fault to between ending new) ⊎ ((ending ≡ Fault session.Memory) × (new ≡ old))
-RefusesCopies form Memory from to old ending new = (ending ≡ Fault session.Memory) × (new ≡ old)
+    ((between : List Event) × TellsFile file old between × IsOneRefused form.to.file.bytes.items fault to between ending new) ⊎ Lacks old ending new
+RefusesCopies form Memory from to old ending new = Lacks old ending new

@@ -30,7 +30,7 @@ use Rattle.program_reports.specs.declared.programs.ProgramLine.TheVariants as li
 use Rattle.outcome.specs.declared.endings.Ending.{Ending}
 use Rattle.outcome.specs.declared.endings.Ending.TheVariants.{Line, Fault}
 use Rattle.program_tasks.specs.declared.forms.GetManyForm.{GetManyForm}
-use Rattle.image_files.specs.Work.{After, Then, Purely}
+use Rattle.image_files.specs.Work.{After, Then, Purely, Lacks}
 use Rattle.image_files.specs.Places.{TellsPair}
 use Rattle.image_files.specs.Reading.{LooksAt}
 use Rattle.image_files.specs.Answers.{Answers, AreLines, named_lines}
@@ -159,7 +159,7 @@ GivesFile form blocks file = Then (Purely (TakesFile blocks file (get_form form 
 -- the name is printed as that of a file that goes as frames, unless memory is wanted for that
 abbrev pub TellsGot : List ℕ → List Event → Result (Unit {0}) Ending → List Event → Type 0
 TellsGot name old (Ok it) new = (ok : Bool) × (new ≡ tell_call ok (name_text GotAsFrames name) ∷ old)
-TellsGot name old (Err ending) new = (ending ≡ Fault Memory) × (new ≡ old)
+TellsGot name old (Err ending) new = Lacks old ending new
 
 abbrev pub NotesGot : Bool → VolumeFile → List Event → Result (Unit {0}) Ending → List Event → Type 0
 NotesGot false file = Purely IsDone

@@ -2,7 +2,7 @@
 use Rattle.std.specs.Prelude.{◌≡◌, ◌⊎◌, ◌<◌, ◌≤◌, ℕ, Bool, true, false, Result, Ok, Err, List, [], ◌∷◌, length, codes}
 use Rattle.std.specs.Global.{Vec}
 use Rattle.std.specs.Str.{bytes_eq}
-use Rattle.hosts.specs.Event.{Event, TakeInput, failed_call, input_call, tell_call}
+use Rattle.hosts.specs.Event.{Event, TakeInput, failed_call, input_call}
 use Rattle.hosts.specs.Faults.{class_of}
 use Rattle.hosts.specs.declared.faults.FaultClass.{FaultClass}
 use Rattle.hosts.specs.declared.faults.FaultClass.TheVariants as class
@@ -13,6 +13,7 @@ use Rattle.outcome.specs.Notes.{name_text}
 use Rattle.outcome.specs.declared.notes.NameNote.TheVariants.{TooLong}
 use Rattle.outcome.specs.declared.endings.Ending.{Ending}
 use Rattle.outcome.specs.declared.endings.Ending.TheVariants.{Fault}
+use Rattle.image_files.specs.Work.{OrLacks, EndsTelling}
 use Rattle.image_files.specs.Reading.{Looks}
 
 -- standard input can't be read
@@ -26,8 +27,7 @@ ending_of_input fault = input_ending (class_of fault)
 
 -- it has more bytes than are read, of which a note is printed unless memory is wanted for it
 abbrev pub IsLongInput : List Event → Ending → List Event → Type 0
-IsLongInput old ending new =
-    ((ending ≡ Fault Reader) × (ok : Bool) × (new ≡ tell_call ok (name_text TooLong (codes "standard input")) ∷ old)) ⊎ ((ending ≡ Fault Memory) × (new ≡ old))
+IsLongInput = OrLacks (EndsTelling (Fault Reader) (name_text TooLong (codes "standard input")))
 
 -- why standard input is not read: its call failed, by this fault; or it has more bytes than are read
 abbrev pub IsUntaken : List Event → Ending → List Event → Type 0

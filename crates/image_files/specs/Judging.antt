@@ -1,5 +1,5 @@
 -- How an image file is refused that may be read in two ways, or that a change would make one that is read in another way.
-use Rattle.std.specs.Prelude.{◌≡◌, ◌⊎◌, ℕ, Bool, Option, None, Some, Result, Ok, Err, List, ◌∷◌}
+use Rattle.std.specs.Prelude.{◌≡◌, ℕ, Bool, Option, None, Some, Result, Ok, Err, List, ◌∷◌}
 use Rattle.hosts.specs.Event.{Event, tell_call}
 use Rattle.disk_layouts.specs.declared.layouts.Layout.{Layout}
 use Rattle.image_kind.specs.declared.kinds.Form.{Form}
@@ -10,16 +10,15 @@ use Rattle.image_kind.specs.Keeping.{two_readings}
 use Rattle.outcome.specs.Notes.{plain_text}
 use Rattle.outcome.specs.Readings.{readings_text}
 use Rattle.outcome.specs.declared.endings.Ending.{Ending}
-use Rattle.outcome.specs.declared.endings.Ending.TheVariants.{Line, Fault}
+use Rattle.outcome.specs.declared.endings.Ending.TheVariants.{Line}
 use Rattle.outcome.specs.declared.notes.PlainNote.{PlainNote}
 use Rattle.outcome.specs.declared.notes.PlainNote.TheVariants.{MadeVolume, MadeDisk, MadeDectape}
 use Rattle.program_reports.specs.declared.programs.ProgramLine.TheVariants as line
-use Rattle.refusals.specs.declared.faults.SessionFault.TheVariants.{Memory}
+use Rattle.image_files.specs.Work.{OrLacks, EndsTelling}
 
 -- a note says in which two ways, unless memory is wanted for it
 abbrev pub TellsTwo : List ℕ → ImageKind × ImageKind → List Event → Ending → List Event → Type 0
-TellsTwo name two old ending new =
-    ((ending ≡ Line line.TwoReadings) × (ok : Bool) × (new ≡ tell_call ok (readings_text name two.0 two.1) ∷ old)) ⊎ ((ending ≡ Fault Memory) × (new ≡ old))
+TellsTwo name two = OrLacks (EndsTelling (Line line.TwoReadings) (readings_text name two.0 two.1))
 
 -- a file that may be read in two ways is refused
 abbrev pub JudgesBy : List ℕ → Option (ImageKind × ImageKind) → List Event → Result (Unit {0}) Ending → List Event → Type 0

@@ -6,9 +6,8 @@ use Rattle.disk_layouts.specs.declared.layouts.Layout.{Layout}
 use Rattle.image_kind.specs.Lines.{mended_lines}
 use Rattle.image_kind.specs.Mending.{IsMended}
 use Rattle.image_kind.specs.declared.mending.MendedFile.{MendedFile}
-use Rattle.refusals.specs.declared.faults.SessionFault.TheVariants.{Memory}
 use Rattle.outcome.specs.declared.endings.Ending.{Ending}
-use Rattle.outcome.specs.declared.endings.Ending.TheVariants.{Fault}
+use Rattle.image_files.specs.Work.{Lacks}
 
 -- lines are printed on standard error, if there are any
 abbrev pub TellsLines : List ℕ → List Event → List Event → Type 0
@@ -19,4 +18,4 @@ TellsLines (c ∷ lines) old new = (ok : Bool) × (new ≡ tell_call ok (c ∷ l
 abbrev pub Mends : Option Layout → Bool → List ℕ → List ℕ → List Event → Result (Vec ℕ) Ending → List Event → Type 0
 Mends given is_plain name file old (Ok bytes) new =
     (it : MendedFile) × IsMended given is_plain file it × (bytes.items ≡ it.bytes.items) × TellsLines (mended_lines name it) old new
-Mends given is_plain name file old (Err ending) new = (ending ≡ Fault Memory) × (new ≡ old)
+Mends given is_plain name file old (Err ending) new = Lacks old ending new

@@ -1,5 +1,5 @@
 -- Two images of a command: whether they are one, and which of them refuses.
-use Rattle.std.specs.Prelude.{◌≡◌, ◌⊎◌, ℕ, Bool, true, false, ◌&&◌, Option, None, Some, List, ◌∷◌}
+use Rattle.std.specs.Prelude.{ℕ, Bool, true, false, ◌&&◌, Option, None, Some, List, ◌∷◌}
 use Rattle.std.specs.Str.{bytes_eq}
 use Rattle.hosts.specs.Event.{Event, tell_call}
 use Rattle.disk_layouts.specs.declared.layouts.Layout.{Layout}
@@ -11,8 +11,8 @@ use Rattle.archive_files.specs.declared.faults.ArchiveFault.TheVariants as archi
 use Rattle.outcome.specs.Notes.{name_text}
 use Rattle.outcome.specs.declared.notes.NameNote.TheVariants as note
 use Rattle.outcome.specs.declared.endings.Ending.{Ending}
-use Rattle.outcome.specs.declared.endings.Ending.TheVariants.{Fault}
 use Rattle.program_tasks.specs.declared.forms.ImageForm.{ImageForm}
+use Rattle.image_files.specs.Work.{OrLacks}
 use Rattle.image_files.specs.Answers.{Refuses}
 
 -- two volumes lie in the same place of a file
@@ -63,4 +63,4 @@ RefusesOne name fault size old ending new = RefusesIf (is_want_of fault) name fa
 
 -- where memory is wanted for the note, that
 abbrev pub IsOneRefused : List ℕ → ArchiveFault → ℕ → List Event → Ending → List Event → Type 0
-IsOneRefused name fault size old ending new = RefusesOne name fault size old ending new ⊎ ((ending ≡ Fault Memory) × (new ≡ old))
+IsOneRefused name fault size = OrLacks (RefusesOne name fault size)

@@ -2,13 +2,13 @@
 use Rattle.std.specs.Prelude.{◌≡◌, ◌⊎◌, ℕ, Bool, true, false, Result, Ok, Err, List, [], ◌∷◌, ◌++◌, codes}
 use Rattle.hosts.specs.Event.{Event, failed_same, same_call, tell_call}
 use Rattle.hosts.specs.declared.faults.HostFault.{HostFault}
-use Rattle.refusals.specs.declared.faults.SessionFault.TheVariants.{Memory}
 use Rattle.program_reports.specs.declared.programs.ProgramLine.TheVariants.{OneFile}
 use Rattle.outcome.specs.Notes.{name_text}
 use Rattle.outcome.specs.declared.contents.Content.{Content}
 use Rattle.outcome.specs.declared.notes.NameNote.TheVariants as note
 use Rattle.outcome.specs.declared.endings.Ending.{Ending}
-use Rattle.outcome.specs.declared.endings.Ending.TheVariants.{Line, Fault}
+use Rattle.outcome.specs.declared.endings.Ending.TheVariants.{Line}
+use Rattle.image_files.specs.Work.{Lacks, OrLacks, EndsTelling}
 use Rattle.image_files.specs.Making.{ending_of_file}
 use Rattle.image_files.specs.Reasons.{TellsUnheld}
 
@@ -22,11 +22,11 @@ pair_text output input = name_text note.OneFile (pair_name output input)
 -- that two names are one file's is printed, unless memory is wanted for that
 abbrev pub TellsPair : List ℕ → List ℕ → List Event → Result (Unit {0}) Ending → List Event → Type 0
 TellsPair output input old (Ok it) new = (ok : Bool) × (new ≡ tell_call ok (pair_text output input) ∷ old)
-TellsPair output input old (Err ending) new = (ending ≡ Fault Memory) × (new ≡ old)
+TellsPair output input old (Err ending) new = Lacks old ending new
 
 -- an output that is an input is refused, with both names
 abbrev pub RefusesPair : List ℕ → List ℕ → List Event → Ending → List Event → Type 0
-RefusesPair output input old ending new = ((ending ≡ Line OneFile) × (ok : Bool) × (new ≡ tell_call ok (pair_text output input) ∷ old)) ⊎ ((ending ≡ Fault Memory) × (new ≡ old))
+RefusesPair output input = OrLacks (EndsTelling (Line OneFile) (pair_text output input))
 
 -- The host is asked of a name that is to be written, and of another, whether they lead to one file. Where they do, or the host can't say,
 -- the command ends, and a note says why. So it goes on only where the host said that they don't.

@@ -41,7 +41,7 @@ use Rattle.volume_image.specs.declared.faults.ImageFault.TheVariants as image
 use Rattle.image_files.specs.Judging.{Judges}
 use Rattle.image_files.specs.Mending.{Mends}
 use Rattle.image_files.specs.Reasons.{TellsFault, TellsUnheld}
-use Rattle.image_files.specs.Work.{Then, Purely}
+use Rattle.image_files.specs.Work.{Then, Purely, Lacks, OrLacks, EndsTelling}
 use Rattle.image_files.specs.declared.reading.ImagePlace.{ImagePlace}
 use Rattle.image_files.specs.declared.images.Image.{Image as Opened}
 use Rattle.image_files.specs.declared.mending.ImageReading.{ImageReading}
@@ -89,7 +89,7 @@ IsNotHeld name fault old new =
 
 -- why it is neither held nor read: by a fault; or memory is wanted for its name
 unfoldable pub IsUnheldImage : List ℕ → List Event → Ending → List Event → Type 0
-IsUnheldImage name old ending new = ((fault : HostFault) × IsUnheld fault ending × IsNotHeld name fault old new) ⊎ ((ending ≡ Fault Memory) × (new ≡ old))
+IsUnheldImage name old ending new = ((fault : HostFault) × IsUnheld fault ending × IsNotHeld name fault old new) ⊎ Lacks old ending new
 
 -- its name is kept
 abbrev pub Holds : List ℕ → List Event → Result ImagePlace Ending → List Event → Type 0
@@ -102,7 +102,7 @@ looked_name place name = if place.is_held then place.path.bytes.items else name
 
 -- bytes are more than are read, of which a note is printed unless memory is wanted for it
 abbrev pub IsTooLong : List ℕ → List Event → Ending → List Event → Type 0
-IsTooLong shown old ending new = ((ending ≡ Line HostRead) × (ok : Bool) × (new ≡ tell_call ok (name_text TooLong shown) ∷ old)) ⊎ ((ending ≡ Fault Memory) × (new ≡ old))
+IsTooLong shown = OrLacks (EndsTelling (Line HostRead) (name_text TooLong shown))
 
 -- why a file is not read, which is printed: its call failed, by this fault; or it has more bytes than are read
 unfoldable pub IsUnread : List ℕ → List ℕ → List Event → Ending → List Event → Type 0
@@ -153,7 +153,7 @@ disk_fault size = if nat_eq (size % 512) 0 then image.TooLarge else image.NotWho
 
 -- a disk of so many bytes is refused where none of its volumes is named; a note says how to name one
 abbrev pub RefusesDisk : ℕ → List Event → Ending → List Event → Type 0
-RefusesDisk size old ending new = (ending ≡ Line (line.Image (disk_fault size))) × (ok : Bool) × (new ≡ tell_call ok (plain_text plain.Disk) ∷ old)
+RefusesDisk size = EndsTelling (Line (line.Image (disk_fault size))) (plain_text plain.Disk)
 
 -- that of the one volume that is meant
 abbrev pub MakesOne : ImagePlace → Judgment → Volumes → Margins → List ℕ → List Event → Result Opened Ending → List Event → Type 0

@@ -1,6 +1,7 @@
 -- The steps of a command, one after another. Each goes from the calls so far, by what it answers, to the calls after it.
-use Rattle.std.specs.Prelude.{◌≡◌, ◌⊎◌, Bool, if◌then◌else◌, Result, Ok, Err, List}
-use Rattle.hosts.specs.Event.{Event}
+use Rattle.std.specs.Prelude.{◌≡◌, ◌⊎◌, ℕ, Bool, if◌then◌else◌, Result, Ok, Err, List, ◌∷◌}
+use Rattle.hosts.specs.Event.{Event, tell_call}
+use Rattle.refusals.specs.declared.faults.SessionFault.TheVariants.{Memory}
 use Rattle.outcome.specs.declared.endings.Ending.{Ending}
 use Rattle.outcome.specs.declared.endings.Ending.TheVariants.{Line, Fault, Failure, Busy, NotWritten, FullOutput, Unreported, NoReader, Misuse}
 
@@ -23,6 +24,24 @@ Then first next old result new = Ends first old result new ⊎ Follows first nex
 -- a step that asks nothing of the host
 abbrev pub Purely : {A : Type 0} → (Result A Ending → Type 0) → List Event → Result A Ending → List Event → Type 0
 Purely gives old result new = gives result × (new ≡ old)
+
+-- ## How a command ends
+
+-- memory is wanted, and nothing more was asked of the host
+abbrev pub Lacks : List Event → Ending → List Event → Type 0
+Lacks old ending new = (ending ≡ Fault Memory) × (new ≡ old)
+
+-- a command ends so, or memory is wanted for that
+abbrev pub OrLacks : (List Event → Ending → List Event → Type 0) → List Event → Ending → List Event → Type 0
+OrLacks ends old ending new = ends old ending new ⊎ Lacks old ending new
+
+-- it ends with this, after what is printed before it
+abbrev pub EndsBy : Ending → (List Event → List Event → Type 0) → List Event → Ending → List Event → Type 0
+EndsBy why tells old ending new = (ending ≡ why) × tells old new
+
+-- it ends with this, after a text that standard error gets
+abbrev pub EndsTelling : Ending → List ℕ → List Event → Ending → List Event → Type 0
+EndsTelling why text old ending new = (ending ≡ why) × (ok : Bool) × (new ≡ tell_call ok text ∷ old)
 
 -- ## Work of several parts
 

@@ -8,14 +8,12 @@ use Rattle.os8_dates.specs.declared.dates.Date.{Date}
 use Rattle.os8_dates.specs.declared.years.TheConstants.{LAST_YEAR, LEAST_LAST}
 use Rattle.archive_many.specs.Opened.{OpensVolume}
 use Rattle.archive_many.specs.declared.putting.NewFile.{NewFile}
-use Rattle.refusals.specs.declared.faults.SessionFault.TheVariants.{Memory}
 use Rattle.outcome.specs.Notes.{name_text}
 use Rattle.outcome.specs.declared.notes.NameNote.TheVariants.{Hint}
 use Rattle.outcome.specs.declared.endings.Ending.{Ending}
-use Rattle.outcome.specs.declared.endings.Ending.TheVariants.{Fault}
 use Rattle.image_files.specs.Answers.{Answers}
 use Rattle.image_files.specs.Saving.{IsDone}
-use Rattle.image_files.specs.Work.{Then, Purely}
+use Rattle.image_files.specs.Work.{Then, Purely, Lacks}
 
 -- the last of eight years that have a year, as `--year` takes it
 abbrev pub last_for : ℕ → ℕ
@@ -49,7 +47,7 @@ is_same_year (Some date) shown = is_of_year date.year shown
 
 abbrev pub TellsHint : ℕ → Option Date → Option Date → ℕ → List Event → Result (Unit {0}) Ending → List Event → Type 0
 TellsHint word wanted shown own old (Ok it) new = (ok : Bool) × (new ≡ tell_call ok (name_text Hint (year_hint word wanted shown own)) ∷ old)
-TellsHint word wanted shown own old (Err ending) new = (ending ≡ Fault Memory) × (new ≡ old)
+TellsHint word wanted shown own old (Err ending) new = Lacks old ending new
 
 abbrev pub TellsUnless : Bool → ℕ → Option Date → Option Date → ℕ → List Event → Result (Unit {0}) Ending → List Event → Type 0
 TellsUnless true word wanted shown own = Purely IsDone

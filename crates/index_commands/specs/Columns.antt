@@ -5,6 +5,7 @@ use Rattle.refusals.specs.declared.faults.SessionFault.TheVariants.{Memory}
 use Rattle.outcome.specs.declared.endings.Ending.{Ending}
 use Rattle.outcome.specs.declared.endings.Ending.TheVariants.{Fault}
 use Rattle.volume_index.specs.Json.{json_lines}
+use Rattle.image_files.specs.Work.{Lacks}
 use Rattle.image_files.specs.Saving.{Prints}
 use Rattle.index_commands.specs.TextColumns.{with_columns}
 use Rattle.index_commands.specs.declared.columns.Columns.{Columns}
@@ -36,4 +37,4 @@ lines_in columns lines = if columns.shape.is_json then json_lines lines else if 
 -- lines are printed so; or there is no memory for them
 abbrev pub Shows : Columns → List ℕ → List Event → Result (Unit {0}) Ending → List Event → Type 0
 Shows columns lines old (Ok it) new = Prints (lines_in columns lines) old (Ok it) new
-Shows columns lines old (Err ending) new = Prints (lines_in columns lines) old (Err ending) new ⊎ ((ending ≡ Fault Memory) × (new ≡ old))
+Shows columns lines old (Err ending) new = Prints (lines_in columns lines) old (Err ending) new ⊎ Lacks old ending new

@@ -2,13 +2,12 @@
 use Rattle.std.specs.Prelude.{◌≡◌, ℕ, true, codes, decimal, Option, Some, None, Result, Ok, Err, List, [], ◌∷◌, ◌++◌}
 use Rattle.shown_text.specs.Showing.{shown_text}
 use Rattle.hosts.specs.Event.{Event}
-use Rattle.refusals.specs.declared.faults.SessionFault.TheVariants.{Memory}
 use Rattle.program_reports.specs.Program.{program_line}
 use Rattle.program_reports.specs.Prefixes.{with_prefixes}
 use Rattle.outcome.specs.declared.endings.Ending.{Ending}
 use Rattle.outcome.specs.declared.endings.Ending.TheVariants as ending
 use Rattle.image_files.specs.Ending.{TellsLine}
-use Rattle.image_files.specs.Work.{Then, Purely}
+use Rattle.image_files.specs.Work.{Then, Purely, Lacks}
 use Rattle.index_commands.specs.declared.found.Found.{Found}
 use Rattle.index_commands.specs.Found.{IsFound}
 
@@ -25,7 +24,7 @@ prefix_of name number = shown_text name ++ number_text number ++ codes ": "
 -- is no refusal, ends it.
 abbrev pub PassesOver : List ℕ → Option ℕ → Ending → List Event → Result (Unit {0}) Ending → List Event → Type 0
 PassesOver name number (ending.Line line) old (Ok it) new = TellsLine (with_prefixes (prefix_of name number) (program_line line)) old new
-PassesOver name number (ending.Line line) old (Err ended) new = (ended ≡ ending.Fault Memory) × (new ≡ old)
+PassesOver name number (ending.Line line) old (Err ended) new = Lacks old ended new
 PassesOver name number other old (Ok it) new = ⊥
 PassesOver name number other old (Err ended) new = (ended ≡ other) × (new ≡ old)
 

@@ -1,5 +1,5 @@
 -- Whether a new volume may take the place of a file. A person at a terminal is asked.
-use Rattle.std.specs.Prelude.{◌≡◌, ◌⊎◌, ℕ, Bool, true, false, nat_lt, if◌then◌else◌, codes, Option, None, Some, Result, Ok, Err, List, [], ◌∷◌, length}
+use Rattle.std.specs.Prelude.{◌≡◌, ◌⊎◌, ℕ, Bool, true, false, nat_lt, if◌then◌else◌, codes, Option, None, Some, Result, Ok, Err, List, ◌∷◌, length}
 use Rattle.std.specs.Io.KnownBytes.{Consumes}
 use Rattle.std.specs.Str.{bytes_eq}
 use Rattle.byte_reader.specs.Readings.{Reading}
@@ -7,13 +7,12 @@ use Rattle.hosts.specs.Event.{Event, Look, failed_call, look_call, tell_call, te
 use Rattle.hosts.specs.declared.faults.HostFault.{HostFault}
 use Rattle.program_reports.specs.declared.programs.ProgramLine.TheVariants as line
 use Rattle.program_tasks.specs.declared.forms.CreateForm.{CreateForm}
-use Rattle.refusals.specs.declared.faults.SessionFault.TheVariants.{Memory}
 use Rattle.outcome.specs.Notes.{name_text}
 use Rattle.outcome.specs.declared.notes.NameNote.TheVariants.{Replaces}
 use Rattle.outcome.specs.declared.endings.Ending.{Ending}
-use Rattle.outcome.specs.declared.endings.Ending.TheVariants.{Fault, Line}
+use Rattle.outcome.specs.declared.endings.Ending.TheVariants.{Line}
 use Rattle.image_files.specs.Saving.{IsDone}
-use Rattle.image_files.specs.Work.{Then, Purely}
+use Rattle.image_files.specs.Work.{Then, Purely, Lacks}
 use Rattle.program.specs.declared.changes.Change.{Change}
 use Rattle.program.specs.declared.changes.Change.TheVariants as change
 
@@ -38,7 +37,7 @@ Answers input is = (bytes : List ℕ) × Consumes input.before input.after bytes
 abbrev pub TakesAnswer : List ℕ → Reading → List Event → Result (Unit {0}) Ending → List Event → Type 0
 TakesAnswer name input old (Ok it) new = Answers input true × (ok : Bool) × (new ≡ tell_call ok (name_text Replaces name) ∷ old)
 TakesAnswer name input old (Err ending) new = (Answers input false × (ending ≡ Line line.HostExists) × (ok : Bool) × (new ≡ tell_call ok (name_text Replaces name) ∷ old))
-    ⊎ ((ending ≡ Fault Memory) × (new ≡ old))
+    ⊎ Lacks old ending new
 
 -- ## When it is asked
 

@@ -13,6 +13,7 @@ use Rattle.outcome.specs.declared.endings.Ending.{Ending}
 use Rattle.outcome.specs.declared.endings.Ending.TheVariants.{Fault, Misuse}
 use Rattle.outcome.specs.declared.notes.PlainNote.TheVariants.{NoText}
 use Rattle.program.specs.Words.{RunsWords, WantsMemory}
+use Rattle.image_files.specs.Work.{Lacks}
 use Rattle.image_files.specs.Ending.{EndsSo, TellsLine}
 
 -- ## The words
@@ -36,15 +37,15 @@ argument_line place argument =
 
 -- the place and the bytes of a word are printed on standard error, unless memory is wanted for that
 abbrev pub ShowsWord : ℕ → Text → List Event → Ending → List Event → Type 0
-ShowsWord place word old ending new = ((ending ≡ Fault Memory) × (new ≡ old)) ⊎ ((ending ≡ Misuse) × TellsLine (argument_line place word) old new)
+ShowsWord place word old ending new = Lacks old ending new ⊎ ((ending ≡ Misuse) × TellsLine (argument_line place word) old new)
 
 -- before that a note says that it is no text
 abbrev pub RefusesWord : ℕ → Text → List Event → Ending → List Event → Type 0
-RefusesWord place word old ending new = ((ending ≡ Fault Memory) × (new ≡ old)) ⊎ ((ok : Bool) × ShowsWord place word (tell_call ok (plain_text NoText) ∷ old) ending new)
+RefusesWord place word old ending new = Lacks old ending new ⊎ ((ok : Bool) × ShowsWord place word (tell_call ok (plain_text NoText) ∷ old) ending new)
 
 -- why a word with these bytes is not taken: memory is wanted for it, or it is no text
 abbrev pub LosesWord : ℕ → Text → List Event → Ending → List Event → Type 0
-LosesWord place word old ending new = ((ending ≡ Fault Memory) × (new ≡ old)) ⊎ ((IsUtf8 word → ⊥) × RefusesWord place word old ending new)
+LosesWord place word old ending new = Lacks old ending new ⊎ ((IsUtf8 word → ⊥) × RefusesWord place word old ending new)
 
 -- why a program doesn't have the word at a place: memory is wanted for it, or it is not taken
 abbrev pub LacksWord : ℕ → List Event → Ending → List Event → Type 0

@@ -7,6 +7,7 @@ use Rattle.archive_many.specs.declared.faults.ManyFault.{ManyFault}
 use Rattle.archive_many.specs.declared.putting.NewFile.{NewFile}
 use Rattle.outcome.specs.declared.endings.Ending.{Ending}
 use Rattle.outcome.specs.declared.endings.Ending.TheVariants.{Fault}
+use Rattle.image_files.specs.Work.{OrLacks, EndsBy}
 use Rattle.image_files.specs.Stored.{is_bad}
 use Rattle.put_commands.specs.Putting.{RefusesMany, TellsPath, TellsText, WantsMemory}
 
@@ -16,8 +17,7 @@ IsNotPut paths files fault size old ending new = RefusesMany paths files fault s
 
 -- the text at a place is refused, if it is one
 abbrev pub IsTextRefused : List NewFile → ℕ → SessionFault → List Event → Ending → List Event → Type 0
-IsTextRefused files place fault old ending new = ((ending ≡ Fault fault) × TellsText (is_bad fault) (slice_get files place) old new)
-    ⊎ ((ending ≡ Fault Memory) × (new ≡ old))
+IsTextRefused files place fault = OrLacks (EndsBy (Fault fault) (TellsText (is_bad fault) (slice_get files place)))
 
 -- the file at a place is refused
 abbrev pub IsFileRefused : List (List ℕ) → List NewFile → ℕ → SessionFault → List Event → Ending → List Event → Type 0

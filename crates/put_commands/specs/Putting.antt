@@ -30,7 +30,7 @@ use Rattle.image_files.specs.Dates.{DatesFile, word_of_day, year_of_day}
 use Rattle.image_files.specs.declared.dates.FileDay.{FileDay}
 use Rattle.image_files.specs.Information.{TakesWords}
 use Rattle.image_files.specs.Years.{NotesFiles, NotesYear}
-use Rattle.image_files.specs.Work.{Then, Purely}
+use Rattle.image_files.specs.Work.{Then, Purely, Lacks, OrLacks, EndsBy, EndsTelling}
 use Rattle.image_files.specs.Inputs.{ReadsIf}
 use Rattle.image_files.specs.Reading.{Opens}
 use Rattle.image_files.specs.Answers.{AreLines, Refuses}
@@ -62,12 +62,12 @@ RefusesPath path old ending new = (ending ≡ Fault (File BadName)) × (ok : Boo
 
 -- the path is printed
 abbrev pub RefusesName : List ℕ → List Event → Ending → List Event → Type 0
-RefusesName path old ending new = (ending ≡ Line SameName) × (ok : Bool) × (new ≡ tell_call ok (name_text NotPut path) ∷ old)
+RefusesName path = EndsTelling (Line SameName) (name_text NotPut path)
 
 -- why a file gets no name: its path spells none, an earlier file has it, or memory is wanted; the path is printed
 abbrev pub IsNoName : Option (List ℕ) → List NewFile → List ℕ → List Event → Ending → List Event → Type 0
 IsNoName given files path old ending new = (Names given path None × RefusesPath path old ending new)
-    ⊎ (((name : ℕ) × Names given path (Some name) × (has_name name files ≡ true) × RefusesName path old ending new) ⊎ ((ending ≡ Fault Memory) × (new ≡ old)))
+    ⊎ (((name : ℕ) × Names given path (Some name) × (has_name name files ≡ true) × RefusesName path old ending new) ⊎ Lacks old ending new)
 
 -- the name of a file, which no earlier one has
 abbrev pub TakesName : Option (List ℕ) → List NewFile → List ℕ → List Event → Result ℕ Ending → List Event → Type 0
@@ -77,7 +77,7 @@ TakesName given files path old (Err ending) new = IsNoName given files path old 
 -- the path of a file that is not read is printed, unless it gets a given name; or memory is wanted for that
 abbrev pub TellsUnread : Option (List ℕ) → List ℕ → Ending → List Event → Ending → List Event → Type 0
 TellsUnread (Some text) path why old ending new = (ending ≡ why) × (new ≡ old)
-TellsUnread None path why old ending new = ((ending ≡ why) × (ok : Bool) × (new ≡ tell_call ok (name_text NotPut path) ∷ old)) ⊎ ((ending ≡ Fault Memory) × (new ≡ old))
+TellsUnread None path why old ending new = OrLacks (EndsTelling why (name_text NotPut path)) old ending new
 
 -- `-` is standard input for a file that gets a given name
 abbrev pub is_input : Option (List ℕ) → List ℕ → Bool
@@ -132,7 +132,7 @@ loss_from older place (file ∷ files) = if empties older file.name file.bytes.i
 abbrev pub FindsFiles : List ℕ → List Event → Result (Vec VolumeFile) Ending → List Event → Type 0
 FindsFiles image old (Ok files) new = (blocks : List (List ℕ)) × OpensVolume image (Ok blocks) × (files.items ≡ files_on blocks) × (new ≡ old)
 FindsFiles image old (Err ending) new = ((fault : ArchiveFault) × OpensVolume image (Err fault) × Refuses fault (length image) old ending new)
-    ⊎ ((ending ≡ Fault Memory) × (new ≡ old))
+    ⊎ Lacks old ending new
 
 -- the path of a file of no byte is printed
 abbrev pub TellsEmpty : Option (List ℕ) → List Event → List Event → Type 0
@@ -143,8 +143,7 @@ TellsEmpty (Some path) old new = (ok : Bool) × (new ≡ tell_call ok (name_text
 abbrev pub RefusesLoss : List (List ℕ) → Option ℕ → List Event → Result (Unit {0}) Ending → List Event → Type 0
 RefusesLoss paths None old result new = IsDone result × (new ≡ old)
 RefusesLoss paths (Some place) old (Ok it) new = ⊥
-RefusesLoss paths (Some place) old (Err ending) new = ((ending ≡ Fault (File NothingWritten)) × TellsEmpty (slice_get paths place) old new)
-    ⊎ ((ending ≡ Fault Memory) × (new ≡ old))
+RefusesLoss paths (Some place) old (Err ending) new = OrLacks (EndsBy (Fault (File NothingWritten)) (TellsEmpty (slice_get paths place))) old ending new
 
 -- one of some files has no byte
 abbrev pub has_empty : List NewFile → Bool
@@ -191,7 +190,7 @@ RefusesMany paths files (many.File place fault) size old ending new = (ending �
 
 -- memory is wanted for what is printed, of which a part may be printed
 abbrev pub WantsMemory : List (List ℕ) → ManyFault → List Event → Ending → List Event → Type 0
-WantsMemory paths (many.Archive fault) old ending new = (ending ≡ Fault Memory) × (new ≡ old)
+WantsMemory paths (many.Archive fault) old ending new = Lacks old ending new
 WantsMemory paths (many.File place fault) old ending new = (ending ≡ Fault Memory) × ((new ≡ old) ⊎ TellsPath (slice_get paths place) old new)
 
 -- the image with all files, or why none is put

@@ -1,9 +1,8 @@
 //! Files of the host that are to be put, each under its own name or one under a name that is given.
-ghost use Rattle.std.specs.Prelude.{◌≡◌, ◌⊎◌, ◌||◌, List, [], ◌∷◌, ◌++◌, not, nat_eq, map, option_map, ℕ, IfOk, OnOk};
-ghost use Rattle.refusals.specs.declared.faults.SessionFault.TheVariants.{Memory};
-ghost use Rattle.outcome.specs.declared.endings.Ending.TheVariants.{Fault};
+ghost use Rattle.std.specs.Prelude.{◌≡◌, ◌||◌, List, [], ◌∷◌, ◌++◌, not, nat_eq, map, option_map, ℕ, IfOk, OnOk};
 ghost use Rattle.archive_many.specs.declared.putting.NewFile.{NewFile as AsNew};
 ghost use Rattle.image_files.specs.Inputs.{ReadsIf};
+ghost use Rattle.image_files.specs.Work.{OrLacks};
 ghost use Rattle.name_spelling.specs.Reading.{typed_name};
 ghost use Rattle.put_commands.specs.Putting.{DatesNext, MakesFile, Names, ReadsEach, ReadsNext, ReadsWhole, RefusesName, RefusesPath, TakesName, TellsUnread, is_input, name_or_zeros};
 ghost use Rattle.put_commands.specs.NameSteps.{KnowsNames, has_key};
@@ -152,8 +151,7 @@ fn number_of(name: Name) -> u64
 
 /// How the command ends where a path spells no name of a volume. The path is printed, and what such names are.
 fn refuse_path<H: Host>(host: &mut H, alloc: Global, path: &str) -> Ending
-    ensures { RefusesPath path.now (H.history host.old) result (H.history host.new)
-        ⊎ ((result ≡ Fault Memory) × (H.history host.new ≡ H.history host.old)) }
+    ensures { OrLacks (RefusesPath path.now) (H.history host.old) result (H.history host.new) }
 {
     match tell_note(host, alloc, Note::OnName(NameNote::NotPut, path)) {
         Ok(()) => {
@@ -166,8 +164,7 @@ fn refuse_path<H: Host>(host: &mut H, alloc: Global, path: &str) -> Ending
 
 /// How the command ends where an earlier path gives the name of this one, which is printed.
 fn refuse_name<H: Host>(host: &mut H, alloc: Global, path: &str) -> Ending
-    ensures { RefusesName path.now (H.history host.old) result (H.history host.new)
-        ⊎ ((result ≡ Fault Memory) × (H.history host.new ≡ H.history host.old)) }
+    ensures { OrLacks (RefusesName path.now) (H.history host.old) result (H.history host.new) }
 {
     match tell_note(host, alloc, Note::OnName(NameNote::NotPut, path)) {
         Ok(()) => Ending::Line(ProgramLine::SameName),

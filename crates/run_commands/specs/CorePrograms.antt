@@ -7,16 +7,15 @@ use Rattle.bin_tape.specs.declared.faults.TapeFault.{TapeFault}
 use Rattle.core_load.specs.Core.{zeros}
 use Rattle.core_load.specs.Load.{IsLoaded, LoadsTape}
 use Rattle.hosts.specs.Event.{Event}
-use Rattle.refusals.specs.declared.faults.SessionFault.TheVariants.{Memory}
 use Rattle.tape_reports.specs.Starts.{first_cell, gives_word, start_cell}
 use Rattle.program_reports.specs.declared.programs.ProgramLine.TheVariants.{NothingToRun, Start}
 use Rattle.outcome.specs.Endings.{ending_of_tape}
 use Rattle.outcome.specs.Hints.{given_note, start_note}
 use Rattle.outcome.specs.declared.endings.Ending.{Ending}
-use Rattle.outcome.specs.declared.endings.Ending.TheVariants.{Line, Fault}
+use Rattle.outcome.specs.declared.endings.Ending.TheVariants.{Line}
 use Rattle.image_files.specs.Notes.{Tells}
 use Rattle.image_files.specs.Saving.{IsDone}
-use Rattle.image_files.specs.Work.{Then, Purely}
+use Rattle.image_files.specs.Work.{Then, Purely, Lacks}
 use Rattle.tape_commands.specs.Kinds.{RefusesFrames}
 use Rattle.run_commands.specs.Lines.{TellsProgram, IsEnding, IsJust}
 use Rattle.run_commands.specs.declared.core_programs.CoreProgram.{CoreProgram}
@@ -26,7 +25,7 @@ use Rattle.run_commands.specs.declared.core_programs.CoreProgram.{CoreProgram}
 -- The tape is laid over core whose words are 0. Frames that are none are refused, and standard error gets what they are.
 abbrev pub LoadsCore : List ℕ → List Event → Result (List ℕ) Ending → List Event → Type 0
 LoadsCore frames old (Ok core) new = IsLoaded frames (zeros CORE) core × (new ≡ old)
-LoadsCore frames old (Err ending) new = ((ending ≡ Fault Memory) × (new ≡ old))
+LoadsCore frames old (Err ending) new = Lacks old ending new
     ⊎ ((fault : TapeFault) × LoadsTape frames (zeros CORE) (zeros CORE) (Err fault) × RefusesFrames frames (ending_of_tape fault) old ending new)
 
 -- ## Where the program starts

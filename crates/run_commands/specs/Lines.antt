@@ -3,11 +3,11 @@ use Rattle.std.specs.Prelude.{◌≡◌, ℕ, Option, None, Some, Result, Ok, Er
 use Rattle.hosts.specs.Event.{Event}
 use Rattle.hosts.specs.declared.faults.PrintFault.{PrintFault}
 use Rattle.hosts.specs.declared.faults.PrintFault.TheVariants.{Abandoned, Failed}
-use Rattle.refusals.specs.declared.faults.SessionFault.TheVariants.{Memory}
 use Rattle.program_reports.specs.Program.{program_line}
 use Rattle.program_reports.specs.declared.programs.ProgramLine.{ProgramLine}
 use Rattle.outcome.specs.declared.endings.Ending.{Ending}
-use Rattle.outcome.specs.declared.endings.Ending.TheVariants.{Fault, FullOutput, NoReader}
+use Rattle.outcome.specs.declared.endings.Ending.TheVariants.{FullOutput, NoReader}
+use Rattle.image_files.specs.Work.{Lacks}
 use Rattle.image_files.specs.Ending.{TellsLine}
 use Rattle.run_commands.specs.RunLines.{run_line}
 use Rattle.run_commands.specs.declared.run_lines.RunLine.{RunLine}
@@ -15,7 +15,7 @@ use Rattle.run_commands.specs.declared.run_lines.RunLine.{RunLine}
 -- a line is printed on standard error, unless memory is wanted for it
 abbrev pub TellsText : List ℕ → List Event → Result (Unit {0}) Ending → List Event → Type 0
 TellsText line old (Ok it) new = TellsLine line old new
-TellsText line old (Err ending) new = (ending ≡ Fault Memory) × (new ≡ old)
+TellsText line old (Err ending) new = Lacks old ending new
 
 abbrev pub TellsProgram : ProgramLine → List Event → Result (Unit {0}) Ending → List Event → Type 0
 TellsProgram line = TellsText (program_line line)

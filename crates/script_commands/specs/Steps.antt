@@ -16,7 +16,6 @@ use Rattle.image_kind.specs.Parts.{HasBody, Parts, file_of}
 use Rattle.script8.specs.Replies.{answer_lines}
 use Rattle.script8.specs.declared.entries.Entry.{Entry}
 use Rattle.refusals.specs.declared.faults.SessionFault.{SessionFault}
-use Rattle.refusals.specs.declared.faults.SessionFault.TheVariants.{Memory}
 use Rattle.script8.specs.declared.replies.Reply.{Reply}
 use Rattle.script8.specs.declared.replies.Reply.TheVariants as reply
 use Rattle.script8.specs.declared.replies.LineReply.{LineReply}
@@ -25,11 +24,12 @@ use Rattle.outcome.specs.Contents.{content_name}
 use Rattle.outcome.specs.Notes.{file_text, name_text}
 use Rattle.outcome.specs.declared.contents.Content.TheVariants as content
 use Rattle.outcome.specs.declared.endings.Ending.{Ending}
-use Rattle.outcome.specs.declared.endings.Ending.TheVariants.{Fault, NotWritten}
+use Rattle.outcome.specs.declared.endings.Ending.TheVariants.{NotWritten}
 use Rattle.outcome.specs.declared.notes.FileNote.TheVariants.{InPlace}
 use Rattle.outcome.specs.declared.notes.NameNote.TheVariants.{Hint, TooLong}
 use Rattle.system_session.specs.ShownAnswers.{ShownAnswer}
 use Rattle.volume_image.specs.Image.{IsImageOf}
+use Rattle.image_files.specs.Work.{Lacks}
 use Rattle.image_files.specs.Reasons.{TellsReason}
 use Rattle.image_files.specs.Judging.{RefusesKind}
 use Rattle.image_files.specs.Saving.{IsSyncTold, TouchesOnly, Writes}
@@ -225,7 +225,7 @@ IsUnwritten judgment path name file ending old new = ((keeps_kind judgment file 
 -- An image could not be saved: memory was wanted for it; or the file may not be written, or has no room for it. Or its file is held, and a
 -- call failed, or the file would be read as something else. Why is printed.
 abbrev pub StaysUnsaved : Image → Ending → List Event → List Event → Type 0
-StaysUnsaved before ending old new = ((ending ≡ Fault Memory) × (new ≡ old))
+StaysUnsaved before ending old new = Lacks old ending new
     ⊎ (((ending ≡ NotWritten content.Image unwritten.AsItWas) × (why : Reason) × TellsReason why before.place.name.bytes.items old new)
     ⊎ ((before.place.is_held ≡ true) × (file : List ℕ) × IsUnwritten before.judgment before.place.path.bytes.items before.place.name.bytes.items file ending old new))
 

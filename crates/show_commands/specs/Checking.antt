@@ -2,14 +2,12 @@
 use Rattle.std.specs.Prelude.{ℕ, ◌+◌, Bool, true, false, nat_eq, ◌≡◌, ◌⊎◌, Result, Ok, Err, List, [], ◌∷◌, length, map}
 use Rattle.hosts.specs.Event.{Event, DropLeftovers, failed_call, leftovers_call, tell_call}
 use Rattle.hosts.specs.declared.faults.HostFault.{HostFault}
-use Rattle.refusals.specs.declared.faults.SessionFault.TheVariants.{Memory}
 use Rattle.outcome.specs.Notes.{leftovers_text}
 use Rattle.program_reports.specs.Program.{program_line}
 use Rattle.program_reports.specs.declared.programs.ProgramLine.TheVariants as line
 use Rattle.outcome.specs.declared.endings.Ending.{Ending}
-use Rattle.outcome.specs.declared.endings.Ending.TheVariants.{Fault}
 use Rattle.program_tasks.specs.declared.forms.CheckForm.{CheckForm}
-use Rattle.image_files.specs.Work.{After, Then, Purely}
+use Rattle.image_files.specs.Work.{After, Then, Purely, Lacks}
 use Rattle.image_files.specs.Answers.{AreLines}
 use Rattle.image_files.specs.Leftovers.{ChoosesImages}
 use Rattle.image_files.specs.Saving.{Prints}
@@ -64,7 +62,7 @@ ChecksFiles form (file ∷ other ∷ files) = ChecksSeveral form (file ∷ other
 abbrev pub TellsDropped : Bool → List ℕ → ℕ → List Event → Result (Unit {0}) Ending → List Event → Type 0
 TellsDropped true name count old result new = (result ≡ Ok tt) × (new ≡ old)
 TellsDropped false name count old (Ok it) new = (ok : Bool) × (new ≡ tell_call ok (leftovers_text name count) ∷ old)
-TellsDropped false name count old (Err ending) new = (ending ≡ Fault Memory) × (new ≡ old)
+TellsDropped false name count old (Err ending) new = Lacks old ending new
 
 -- the host is asked to take away what lies beside the file of a name; where it can't the work goes on
 abbrev pub DropsBeside : List ℕ → List Event → Result (Unit {0}) Ending → List Event → Type 0

@@ -15,7 +15,7 @@ use Rattle.outcome.specs.declared.endings.Ending.{Ending}
 use Rattle.outcome.specs.declared.endings.Ending.TheVariants.{Fault}
 use Rattle.image_files.specs.Answers.{Answers, AreLines}
 use Rattle.image_files.specs.Reading.{FindsVolume, LooksImage}
-use Rattle.image_files.specs.Work.{After, Then, Purely}
+use Rattle.image_files.specs.Work.{After, Then, Purely, Lacks}
 use Rattle.image_files.specs.declared.mending.ImageReading.{ImageReading}
 use Rattle.image_files.specs.Ending.{EndsSound}
 use Rattle.show_commands.specs.Reporting.{PrintsNamed, PrintsReport, Reports, ReportsAmong, TellsRefusal}
@@ -69,7 +69,7 @@ has_margins margins = not (nat_eq margins.before 0) || not (nat_eq margins.after
 abbrev pub TellsMarginsIf : Bool → List ℕ → Margins → List Event → Result (Unit {0}) Ending → List Event → Type 0
 TellsMarginsIf false name margins old result new = (result ≡ Ok tt) × (new ≡ old)
 TellsMarginsIf true name margins old (Ok it) new = (ok : Bool) × (new ≡ tell_call ok (margins_text name margins.before margins.after) ∷ old)
-TellsMarginsIf true name margins old (Err ending) new = (ending ≡ Fault Memory) × (new ≡ old)
+TellsMarginsIf true name margins old (Err ending) new = Lacks old ending new
 
 -- where an image is checked
 abbrev pub TellsMargins : ReportKind → List ℕ → Margins → List Event → Result (Unit {0}) Ending → List Event → Type 0

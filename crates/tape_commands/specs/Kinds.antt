@@ -8,6 +8,7 @@ use Rattle.refusals.specs.declared.faults.SessionFault.TheVariants.{BadLine, NoJ
 use Rattle.outcome.specs.Hints.{kind_note}
 use Rattle.outcome.specs.declared.endings.Ending.{Ending}
 use Rattle.outcome.specs.declared.endings.Ending.TheVariants as ending
+use Rattle.image_files.specs.Work.{Lacks}
 use Rattle.image_files.specs.Notes.{Tells}
 
 -- a fault of frames that are no BIN tape
@@ -40,7 +41,7 @@ is_no_tape ending.Misuse = false
 -- memory is wanted to know it, the command ends with that.
 abbrev pub RefusesTape : List ℕ → Ending → List Event → Ending → List Event → Type 0
 RefusesTape frames fault old ended new = ((kind : FileKind) × IsKind frames kind × (ended ≡ fault) × Tells (kind_note kind) old new)
-    ⊎ ((ended ≡ ending.Fault Memory) × (new ≡ old))
+    ⊎ Lacks old ended new
 
 abbrev pub RefusesIf : Bool → List ℕ → Ending → List Event → Ending → List Event → Type 0
 RefusesIf true frames fault old ended new = RefusesTape frames fault old ended new
