@@ -3,10 +3,10 @@ use Rattle.std.proofs.Common.{◌≡◌, ◌∙◌, ℕ, Bool, true, false, nat_
 use Rattle.hosts.specs.Event.{Event, Call, print_call}
 use Rattle.hosts.specs.Faults.{pipe_number}
 use Rattle.hosts.specs.Place.{about, with_step}
-use Rattle.hosts.specs.Streams.{errors, read, with_told, with_read}
+use Rattle.hosts.specs.Streams.{errors, output, read, with_printed, with_told, with_read}
 use Rattle.hosts.specs.declared.faults.PrintFault.{PrintFault}
 use Rattle.hosts.specs.declared.faults.PrintFault.TheVariants.{Abandoned, Failed}
-use Rattle.host_output.specs.Printing.{ArePrinted, ArePrints, HasPrinted, last_fault}
+use Rattle.host_output.specs.Printing.{ArePrinted, ArePrints, AreTaken, AreTakenButLast, HasPrinted, StopsAtFailure, last_fault}
 
 -- ## How they grow
 
@@ -85,3 +85,32 @@ same_errors old new fault p = ap (λ (events : List Event). errors events) p.cal
 
 pub same_reads : (old new : List Event) (fault : Option PrintFault) → HasPrinted old new fault → read new ≡ read old
 same_reads old new fault p = ap (λ (events : List Event). read events) p.calls ∙ read_prints p.prints old p.all
+
+-- ## What is taken
+
+abbrev told-of : List Event → List (Bool × List ℕ)
+told-of [] = []
+told-of (e ∷ earlier) = (e.ok, e.bytes) ∷ told-of earlier
+
+output-printed : (prints old : List Event) → ArePrinted prints → output (prints ++ old) ≡ told-of prints ++ output old
+output-printed [] old all = refl
+output-printed (e ∷ earlier) old all = ap (λ (call : Call). with_printed call e (output (earlier ++ old))) all.0 ∙ ap (λ (l : List (Bool × List ℕ)). (e.ok, e.bytes) ∷ l) (output-printed earlier old all.2)
+
+output-prints : (prints old : List Event) → ArePrints prints → output (prints ++ old) ≡ told-of prints ++ output old
+output-prints [] old all = refl
+output-prints (e ∷ earlier) old all = ap (λ (call : Call). with_printed call e (output (earlier ++ old))) all.0 ∙ ap (λ (l : List (Bool × List ℕ)). (e.ok, e.bytes) ∷ l) (output-printed earlier old all.1)
+
+taken-printed : (prints : List Event) → ArePrinted prints → AreTaken (told-of prints)
+taken-printed [] all = tt
+taken-printed (e ∷ earlier) all = (all.1, taken-printed earlier all.2)
+
+taken-prints : (prints : List Event) → ArePrints prints → AreTakenButLast (told-of prints)
+taken-prints [] all = tt
+taken-prints (e ∷ earlier) all = taken-printed earlier all.1
+
+pub stops : (old new : List Event) (fault : Option PrintFault) → HasPrinted old new fault → StopsAtFailure old new
+stops old new fault p = record {
+  since = told-of p.prints;
+  are = ap (λ (events : List Event). output events) p.calls ∙ output-prints p.prints old p.all;
+  taken = taken-prints p.prints p.all;
+}

@@ -1,6 +1,7 @@
 -- What is asked of a host by a writer that is its standard output.
-use Rattle.std.specs.Prelude.{◌≡◌, nat_eq, true, if◌then◌else◌, Option, None, Some, List, [], ◌∷◌, ◌++◌}
+use Rattle.std.specs.Prelude.{◌≡◌, ℕ, nat_eq, Bool, true, if◌then◌else◌, Option, None, Some, List, [], ◌∷◌, ◌++◌}
 use Rattle.hosts.specs.Event.{Event, Print}
+use Rattle.hosts.specs.Streams.{output}
 use Rattle.hosts.specs.declared.faults.PrintFault.{PrintFault}
 use Rattle.hosts.specs.declared.faults.PrintFault.TheVariants.{Abandoned, Failed}
 
@@ -25,3 +26,19 @@ pub record HasPrinted (old new : List Event) (fault : Option PrintFault) : Type 
   pub all : ArePrints prints
   pub calls : new ≡ prints ++ old
   pub last : fault ≡ last_fault prints
+
+-- standard output took all of these
+abbrev pub AreTaken : List (Bool × List ℕ) → Type 0
+AreTaken [] = Unit {0}
+AreTaken ((ok, bytes) ∷ earlier) = (ok ≡ true) × AreTaken earlier
+
+-- it took all but the newest, and may have taken that
+abbrev pub AreTakenButLast : List (Bool × List ℕ) → Type 0
+AreTakenButLast [] = Unit {0}
+AreTakenButLast ((ok, bytes) ∷ earlier) = AreTaken earlier
+
+-- These were printed between some calls, the newest first. After one that standard output didn't take there is none.
+pub record StopsAtFailure (old new : List Event) : Type 0 where
+  pub since : List (Bool × List ℕ)
+  pub are : output new ≡ since ++ output old
+  pub taken : AreTakenButLast since

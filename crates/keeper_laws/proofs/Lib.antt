@@ -6,6 +6,7 @@ mod CopyAllLemmas
 mod GotBackLemmas
 pub mod CopyLemmas
 mod HeldLemmas
+mod LineLemmas
 pub mod MakeLemmas
 mod ManyBackLemmas
 pub mod OpenLemmas
