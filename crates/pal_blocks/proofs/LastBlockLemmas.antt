@@ -31,7 +31,8 @@ use Rattle.pal_asm.specs.Passing.{TellsJoinFault, HasPassed, Settles, EndsSource
 use Rattle.pal_blocks.specs.Steps.{PassesBlock}
 use Rattle.pal_blocks.specs.Progress.{due_of, block_of, Place, text_taken, IsInPass, IsFirstPass, IsSecondPass, IsAssembling}
 use Rattle.pal_blocks.specs.Turns.{TakesBlock}
-use Rattle.pal_blocks.proofs.BeginLemmas.{lt_true, lt_false, not_yet, nothing_read, no_text, as_many, has_others, nothing_more}
+use Rattle.pal_asm.proofs.TextLemmas.{nothing_read}
+use Rattle.pal_blocks.proofs.BeginLemmas.{lt_true, lt_false, not_yet, no_text, as_many, has_others, nothing_more}
 use Rattle.pal_blocks.proofs.TextLemmas.{JoinedCharacters, one_block}
 use Rattle.pal_blocks.proofs.PlaceLemmas.{among_append, files_at, each_at, all_among, IsAfter, whole_join, whole_text, told_in, told_whole, so_far, joined_least, over_none, no_pause, next_source}
 use Rattle.pal_blocks.proofs.TurnLemmas.{the_first, none_more, known_all, known_end, from_none, from_now, fault_end, takes_fault, PassesClause, EndedClause, after_first, settled_first, turn_is, most_left, last_block, how_many, no_others, whole_words}
