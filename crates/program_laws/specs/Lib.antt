@@ -1,3 +1,4 @@
 pub mod Assembled
+pub mod Letters
 pub mod Quiet
 pub mod Statuses
