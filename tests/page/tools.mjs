@@ -123,17 +123,17 @@ export async function removeVolume(page) {
 /** @param {Test} body @returns {Test} */
 export const alone = body => Object.assign(body, { isAlone: true });
 
-// How often a test is tried: a browser on a busy machine may come late once. A planted fault must be noticed at the first try.
+// How often a test with a page of its own is tried: a browser on a busy machine may come late once. A planted fault must be noticed at the first try.
 const TRIES = Number(process.env.TRIES ?? 2);
 
 /** @param {unknown} error */
 const words = error => error instanceof Error ? error.message : String(error);
 
-// Tries a test until it passes, and returns whether it does. The line of one that passes late says why it didn't at first.
-/** @param {string} title @param {string} name @param {() => Promise<string>} body what gives a word to add to its line */
-async function passes(title, name, body) {
+// Tries a test so often until it passes, and returns whether it does. The line of one that passes late says why it didn't at first.
+/** @param {string} title @param {string} name @param {number} tries @param {() => Promise<string>} body what gives a word to add to its line */
+async function passes(title, name, tries, body) {
     const why = [];
-    while (why.length < TRIES) {
+    while (why.length < tries) {
         try {
             const noted = await body();
             console.log(`${title}: ${name}${noted}${why.map(it => `, at a further try; before: ${it}`).join('')}`);
@@ -152,7 +152,7 @@ export async function run(title, tests) {
     const browser = await Browser.open();
     const counts = { passed: 0, failed: 0 };
     for (const [name, body] of Object.entries(tests).filter(([it]) => !only.length || only.some(part => it.includes(part)))) {
-        const isPassed = await passes(title, name, async () => {
+        const isPassed = await passes(title, name, TRIES, async () => {
             const server = await serve(folder), page = await (body.isAlone ? Browser.open() : browser.user());
             work = mkdtempSync(join(tmpdir(), `${title}-`));
             try {
@@ -193,7 +193,7 @@ export async function runInTurn(title, tests) {
         await page.go(server.url);
         for (const { name, body } of tests.filter(({ name }) => !only.length || only.some(part => name.includes(part)))) {
             const from = Date.now();
-            const isPassed = await passes(title, name, async () => {
+            const isPassed = await passes(title, name, 1, async () => {
                 noted = '';
                 await body(page, server);
                 holds(page.errors.length === 0, `errors of the page: ${page.errors}`);
