@@ -115,14 +115,14 @@ class Part:
         self.words, self.begun, self.proved = words, begun, set[str]()
         self.kinds: counts.Counts = {}
         self.last = collections.deque[str](maxlen=12)
-        self.told = list[str]()
+        self.complaints = list[str]()
         self.held: list[str] | None = None if words == RT_CI else []
 
     def show(self, line: str) -> None:
         short = line if len(line) < 400 else f"{line[:400]} ..\n"
         self.last.append(short)
-        if FAILS.search(line) and len(self.told) < 12:
-            self.told.append(short)
+        if FAILS.search(line) and len(self.complaints) < 12:
+            self.complaints.append(short)
         if self.held is not None:
             self.held.append(line)
             return
@@ -173,7 +173,7 @@ class Part:
             with self.printing:
                 print(f"gate: {' '.join(self.words)}, {clock(time.monotonic() - self.begun)}\n{''.join(self.held)}", end="", flush=True)
         if not ran or ran[1]:
-            lines = [*(it for it in self.told if it not in self.last), *self.last]
+            lines = [*(it for it in self.complaints if it not in self.last), *self.last]
             self.failures.append(f"gate: {' '.join(self.words)} failed:\n{''.join(lines)}")
         self.found[" ".join(self.words)] = None if not ran or ran[1] else counts_of(self.kinds, ran[0])
         return ran or (0, 1)

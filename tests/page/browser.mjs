@@ -277,7 +277,7 @@ export class Browser {
         for (let k = 0; k < 400; k++) {
             const [name] = readdirSync(this.downloads).filter(it => !it.endsWith('.crdownload') && !it.startsWith('.'));
             if (name) {
-                await this.#isWhole(join(this.downloads, name));
+                await this.#untilWhole(join(this.downloads, name));
                 return { name, bytes: readFileSync(join(this.downloads, name)) };
             }
             await pause(25);
@@ -287,7 +287,7 @@ export class Browser {
 
     // Waits until a file grows no more: on a busy machine it is there before its bytes are. An empty one is given a second.
     /** @param {string} path */
-    async #isWhole(path) {
+    async #untilWhole(path) {
         for (let k = 0, before = -1; k < 100; k++) {
             const now = readFileSync(path).length;
             if (now === before && (now > 0 || k > 20)) return;
