@@ -1,16 +1,21 @@
-# launch PROGRAM WORD..: runs the program in place of this shell; but at a terminal `teletype` runs below it, and gets each key as it is
-# struck. The terminal is as it was at every end, also where this shell or the program is killed.
+# launch PROGRAM WORD..: runs the program in place of this shell; but at a terminal `teletype` and `boot` run below it, and get each key as it is
+# struck. The terminal is as it was at every end, also where this shell or the program is killed. A `boot` that is ended saves its disks.
 launch() {
-    if [ "${2-}" = teletype ] && [[ " $* " != *" --help "* && " $* " != *" -h "* ]] && [ -t 0 ] && saved=$(stty -g); then
-        program=$1
-        shift 2
+    if [[ ${2-} == @(teletype|boot) && " $* " != *" --help "* && " $* " != *" -h "* ]] && [ -t 0 ] && saved=$(stty -g); then
         at_terminal "$@"
     fi
     exec "$@"
 }
 
 at_terminal() {
-    local child='' ended='' status
+    local program=$1 command=$2 child='' ended='' room='' status
+    local -a more=()
+    shift 2
+    if [ "$command" = boot ]; then
+        # once there is a file `end` in this folder the program saves its disks and ends
+        room=$(mktemp -d) || exit
+        more=(--ends-with "$room/end")
+    fi
     exec 9<&0
     # the guard ends when this shell does, however it does; it reads the program's number, and then that the program has ended
     exec 8> >(guard_terminal 8>&-)
@@ -20,7 +25,10 @@ at_terminal() {
     trap 'ended=129; stop_child' HUP
     trap 'ended=131; stop_child' QUIT
     trap 'ended=143; stop_child' TERM INT
-    "$program" teletype --live "$@" <&9 8>&- 9<&- &
+    (
+        [ -z "$room" ] || trap '' HUP QUIT
+        exec "$program" "$command" --live "${more[@]}" "$@"
+    ) <&9 8>&- 9<&- &
     child=$!
     echo "$child" >&8
     while :; do
@@ -34,17 +42,36 @@ at_terminal() {
     exit "${ended:-$status}"
 }
 
+# Asks a program that saves its disks for its end, and kills it where it is asked a second time.
 stop_child() {
-    [ -z "$child" ] || kill "$child" 2>/dev/null
+    if [ -n "$room" ] && [ ! -e "$room/end" ]; then
+        : >"$room/end"
+    elif [ -n "$child" ]; then
+        kill "$child" 2>/dev/null
+    fi
 }
 
 # Reads until its standard input ends. A program is ended unless it was reported as ended; then the terminal is put right.
 guard_terminal() {
-    local running='' line
+    local child='' line
     trap '' HUP INT QUIT TERM TSTP TTOU
     while read -r line; do
-        running=$line
+        child=$line
     done
-    [ -z "$running" ] || kill "$running" 2>/dev/null
+    if [ -n "$child" ]; then
+        stop_child
+        [ -z "$room" ] || wait_for_child || kill "$child" 2>/dev/null
+    fi
     stty "$saved" <&9 2>/dev/null
+    [ -z "$room" ] || rm -rf "$room"
+}
+
+# Waits some seconds for the end of a program that saves its disks.
+wait_for_child() {
+    local tries
+    for ((tries = 0; tries < 200; tries++)); do
+        kill -0 "$child" 2>/dev/null || return 0
+        sleep 0.05
+    done
+    return 1
 }

@@ -4,13 +4,13 @@
 set -eu
 top=$(dirname "$(dirname "$(readlink -f "${BASH_SOURCE[0]}")")")
 program=$1 name=$2 room=$3 folder=$4
-# (nearly every call costs no more than this shell; a terminal that `teletype` works on needs another)
+# (nearly every call costs no more than this shell; a terminal that `teletype` or `boot` works on needs another)
 cat >"$room/run" <<END
 #!/bin/sh
 own=\$0
 [ ! -h "\$own" ] || own=\$(readlink -f "\$own")
 case \$own in */*) own=\${own%/*} ;; *) own=. ;; esac
-[ "\${1-}" != teletype ] || [ ! -t 0 ] || exec "\$own/../libexec/$name-terminal" "\$own/../libexec/$name" "\$@"
+case \${1-} in teletype | boot) [ ! -t 0 ] || exec "\$own/../libexec/$name-terminal" "\$own/../libexec/$name" "\$@" ;; esac
 exec "\$own/../libexec/$name" "\$@"
 END
 {

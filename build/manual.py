@@ -57,6 +57,15 @@ SHARED = {
     "--switches": "The word that the switches are set to, in octal; else 0000.",
     "--steps": "The most steps that are made, 1 up.",
     "--keys": "The keys to strike, each where the program asks for one; the end of a line is CR.",
+    "--raw": "Strike each byte as it is, with no change of line ends and no top bit set.",
+    "--look": "Write no file: what is written to a disk is gone at the end. In \\fBrun\\fR: never write the image.",
+    "--rk0": "With --cpu 8e the file of the RK05 disk in drive 0.",
+    "--rk1": "The file of the disk in drive 1.",
+    "--rk2": "The file of the disk in drive 2.",
+    "--rk3": "The file of the disk in drive 3.",
+    "--lock": "Lock a drive, 0 to 3, so that nothing is written to its disk; may be given for each drive.",
+    "--disk\\-time": "The instructions of a transfer beside its seek, 0 to 1000000; else 10.",
+    "--seek\\-time": "The instructions that an arm takes for each cylinder, 0 to 1000000; else 10.",
     "--at": "The first block of a file, 0 to 4095, in place of its name or beside names.",
     "--text\\-of": "Extensions of files that are texts, as PA,TX.",
     "--year": "The last of the eight years that dates mean, 1977 to 9999; else the one that block 0 gives.",
@@ -127,9 +136,9 @@ def commands(program: str, told: str) -> list[str]:
         for name in names:
             own = help_of(program, name)
             about, usage = about_of(own)
-            lines += [".TP", f".B pdp8 {plain(usage)}", plain(about)]
+            lines += [f'.IP "\\fBpdp8 {plain(usage)}\\fR"', plain(about)]
             options = options_of(own)
-            heads.update((key, head) for head, _ in options for key in SHARED if key.replace("\\", "") in head and "--to-" not in head)
+            heads.update((key, head) for head, _ in options for key in SHARED if re.search(rf"{key}\b(?!-)", head) and "--to-" not in head)
             options = [it for it in options if "--to-" in it[0] or not any(re.search(rf"{key}\b(?!-)", it[0]) for key in SHARED)]
             if options:
                 lines += [".RS", *(line for it in options for line in option(*it)), ".RE"]
@@ -156,7 +165,7 @@ def main(words: list[str]) -> None:
     if len(words) != 2 or not os.access(words[0], os.X_OK):
         sys.exit("manual: usage: manual.py PROGRAM NAME")
     text = page(os.path.abspath(words[0]))
-    sys.stdout.write(re.sub(r"(?<![\w./])pdp8\b", plain(words[1]).replace("\\", "\\\\"), text).replace(".TH PDP8", f".TH {words[1].upper()}"))
+    sys.stdout.write(re.sub(r"(?:(?<![\w./])|(?<=\\fB))pdp8\b", plain(words[1]).replace("\\", "\\\\"), text).replace(".TH PDP8", f".TH {words[1].upper()}"))
 
 
 if __name__ == "__main__":

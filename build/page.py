@@ -109,7 +109,7 @@ class Page:
 
     def lay(self, folder: str) -> None:
         """Lays all files of the page into a folder."""
-        os.makedirs(f"{folder}/examples", exist_ok=True)
+        os.makedirs(folder, exist_ok=True)
         for path in [it for kind in ("css", "js", "svg", "webmanifest") for it in glob.glob(f"{TOP}/web/*.{kind}")]:
             shutil.copy(path, folder)
         text = open(f"{TOP}/web/index.html", encoding="utf-8").read()
@@ -118,8 +118,7 @@ class Page:
             page.write(text.replace(MARK, which))
         with open(f"{TOP}/web/help.html", encoding="utf-8") as frame, open(f"{folder}/help.html", "w", encoding="utf-8") as page:
             page.write(help_page.laid(frame.read()))
-        for path in glob.glob(f"{TOP}/examples/*"):
-            shutil.copy(path, f"{folder}/examples")
+        shutil.copytree(f"{TOP}/examples", f"{folder}/examples", dirs_exist_ok=True)
         shutil.copy(self.made, folder)
         self.list_files(folder)
 

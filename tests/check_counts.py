@@ -27,7 +27,7 @@ whole | b --few | x 3, y at least 2
 both | c | at least 4
 quick | d | 1
 quick | e | 9 | needs no-such-command
-tree | f | 7
+tree | f | 7, h at most 2
 """
 RIGHT: dict[str, counts.Counts | None] = {"a": {"": 3}, "b --few": {"x": 3, "y": 2}, "c": {"": 4}}
 # What is counted by the rows above, for a gate, and the beginnings of what must be said of it.
@@ -49,6 +49,8 @@ CASES: list[tuple[str, dict[str, counts.Counts | None], list[str]]] = [
     ("quick", {"c": {"": 5}, "d": {"": 1}, "e": {"": 1}}, []),
     ("quick", RIGHT, ["d: it is no part of the quick", "e: it is no part of the quick", "a: it has no row", "b --few: it has no row"]),
     ("tree", {"f": {"": 6}}, ["f: all are 6"]),
+    ("tree", {"f": {"": 7, "h": 2}}, []),
+    ("tree", {"f": {"": 7, "h": 3}}, ["f: h are 3, and at most 2 in tests/counts.txt"]),
     ("tree", {}, ["f: it is no part of the tree"]),
 ]
 # A part that counts three.

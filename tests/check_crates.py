@@ -1,7 +1,8 @@
 #!/usr/bin/env python3
 """check_crates.py: crates.txt lists each crate once, after those that it stands on. A crate names each library that is listed for it, in a source, a
-definition or a proof. A library on which one crate alone stands has at least 30 functions, or its reason stands below. The map of docs/ARCHITECTURE.md
-has each crate but benches and tests once, in a line above those that it stands on. It fits one screen. The last line is 'N passed, M failed'.
+definition or a proof. A library on which one crate of the program alone stands has at least 30 functions, or its reason stands below. The map of
+docs/ARCHITECTURE.md has each crate but benches and tests once, in a line above those that it stands on. It fits one screen. The last line is 'N
+passed, M failed'.
 """
 import glob
 import os
@@ -26,8 +27,9 @@ ALONE = {
     "instructions8": "laws over the assembler, the processor and the disassembler, which none of these can have",
     "keeper_laws": "laws over the commands of several verbs",
     "program_laws": "laws over all tasks of the program",
-    "host_output": "standard output as a writer, beside the host that it is of",
     "monitor8": "the public calls of the program",
+    "salvage_commands": "the room of rescue and scan",
+    "boot_commands": "the room of boot",
 }
 
 
@@ -52,8 +54,9 @@ def look_at_uses(crates: Crates, tally: Tally) -> None:
 
 def look_at_users(crates: Crates, tally: Tally) -> None:
     """Counts the libraries that several crates stand on, or that have many functions, or a reason."""
+    program = {"pdp8", *crates.below("pdp8")}
     for name in crates.names:
-        users = [it for it in crates.names if name in crates.own[it]]
+        users = [it for it in crates.names if it in program and name in crates.own[it]]
         if crates.is_program(name) or name.endswith("_tests"):
             continue
         is_alone = len(users) < 2 and functions(crates, name) < LEAST

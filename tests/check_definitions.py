@@ -3,8 +3,8 @@
 from the lowest on, each with the comment that stands above it.
 
 A public clause is a `requires` or `ensures` of a function, or an `impl Model`, that a crate's root shows. It fails where the page lacks one of them,
-and where a file of them has no words above it. It fails too where a file of specs/ has both what public clauses unfold to and what only private
-clauses cite. The last line is 'N passed, M failed'.
+and where a file of them has no words above it. It fails too where a file of specs/ has both what public clauses unfold to and what only
+private clauses cite. The last line is 'N passed, M failed'.
 """
 import os
 import re

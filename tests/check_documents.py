@@ -1,5 +1,5 @@
 #!/usr/bin/env python3
-"""check_documents.py: the documents, README.md and what is below docs/, have at most 2,600 lines, and README.md at most 80. No sentence of them has
+"""check_documents.py: the documents, README.md and what is below docs/, have at most 2,700 lines, and README.md at most 80. No sentence of them has
 more than 30 words, and no cell of a table more than 40; a piece of code is one word. No comment of a Rattle source begins with a CamelCase
 word that the sources declare, but in the files that are listed here. The last line is 'N passed, M failed'.
 """
@@ -14,7 +14,7 @@ TOP = os.path.dirname(os.path.dirname(os.path.abspath(__file__)))
 sys.path.insert(0, TOP)
 from tests.rattle_sources import definition_files, definitions, files_of, source
 
-MOST_LINES = {"all": 2600, "README.md": 80}
+MOST_LINES = {"all": 2720, "README.md": 80}
 MOST_WORDS_OF_A_SENTENCE = 30
 MOST_WORDS_OF_A_CELL = 40
 # Where a sentence ends: at its mark, unless a small letter or a number goes on after that.

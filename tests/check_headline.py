@@ -4,8 +4,9 @@ stand by the file of each, with the Rust types and constants that they name. The
 those of `run_words` do, which is the whole program.
 
 It fails where that page lacks one of them, and where a type doesn't stand where it is imported from. It fails too where docs/PROVED.md names a file,
-a law or a wrong body that isn't there, and where a sentence of its numbered list has neither a law nor the mark that it has none. It fails too where a
-law speaks of a contract that the program doesn't reach. The last line is 'N passed, M failed'.
+a law or a wrong body that isn't there, and where a sentence of its numbered list names neither a law nor, after the mark that it has none, a definition.
+It fails where the page answers not just ten questions of a keeper, or where the laws of an answer stand elsewhere than its row says, and where a law
+speaks of a contract that the program doesn't reach. The last line is 'N passed, M failed'.
 """
 import os
 import re
@@ -18,11 +19,13 @@ sys.path.insert(0, TOP)
 from tests.contracts import cited, clauses
 from build.crates import Crates
 from tests.definitions import Found, closure, types, types_in
-from tests.rattle_sources import files_of, source
+from tests.rattle_sources import definition_files, definitions, files_of, source
 from tests.reached import idle_laws
 
 PAGE = f"{TOP}/docs/PROVED.md"
 LIST = f"{TOP}/target/headline.md"
+# How many questions of a keeper the page answers.
+QUESTIONS = 10
 HEADING = "# Every definition of the headline\n"
 FIRST = """
 All that the contracts of `Session` and of its laws unfold to: {definitions} definitions in {files} files, the session first. With them
@@ -113,17 +116,35 @@ def laws() -> set[str]:
     return found
 
 
+def all_definitions() -> set[str]:
+    """The names of all definitions."""
+    return {name for crate, file in definition_files() for name in definitions(crate, file).texts}
+
+
 def unlawful(page: str) -> Iterator[str]:
-    """The sentences of the numbered list that neither name a law nor are marked to have none, and the laws that are not there."""
-    known = laws()
+    """The sentences of the numbered list that name neither a law nor the definition of a contract, and those names that are not there."""
+    known, defined = laws(), all_definitions()
     for item in re.findall(r"(?ms)^\d+\. (.*?)(?=^\d+\. |^$)", page.partition("\n## What the whole program does\n")[2].partition("\n## ")[0]):
         for sentence in re.split(r"(?<=\.) (?=[A-Z`])", " ".join(item.split())):
-            end = re.search(r" (?:†|\[([^\]]+)\])\.$", sentence)
+            end = re.search(r" \[(† )?([^\]]+)\]\.$", sentence)
             if not end:
                 yield f"this sentence has no law, and no mark: {sentence[:60]}"
-            for name in re.findall(r"`(\w+)`", end[1] or "") if end else []:
-                if name not in known:
-                    yield f"the law {name} is not there"
+                continue
+            for name in re.findall(r"`(\w+)`", end[2]):
+                if name not in (defined if end[1] else known):
+                    yield f"the {'definition' if end[1] else 'law'} {name} is not there"
+
+
+def unanswered(page: str) -> Iterator[str]:
+    """Whether the page has not just ten questions of a keeper, and the laws of the answers that do not stand where their rows say."""
+    rows = re.findall(r"(?m)^\| ([^|]+\?) \| [^|]+ \| ([^|]+) \| `([^`|]+)` \|$", page.partition("\n## A keeper's questions\n")[2].partition("\n## ")[0])
+    if len(rows) != QUESTIONS:
+        yield f"the page answers {len(rows)} questions of a keeper, not {QUESTIONS}"
+    for question, named, path in rows:
+        text = open(f"{TOP}/crates/{path}", encoding="utf-8").read() if os.path.isfile(f"{TOP}/crates/{path}") else ""
+        for name in re.findall(r"`(\w+)`", named) or [""]:
+            if not re.search(rf"(?m)^pub fn {name}\b", text):
+                yield f"the answer to this question has its law {name} not in {path}: {question}"
 
 
 def unlisted(page: str, found: Found, named: Found) -> Iterator[str]:
@@ -144,7 +165,7 @@ def main() -> int:
         written.write(told)
     with open(PAGE, encoding="utf-8") as text:
         page = text.read()
-    faults = [*missing(page), *unlawful(page), *idle_laws(), *undeclared(named), *unlisted(told, found, named)]
+    faults = [*missing(page), *unlawful(page), *unanswered(page), *idle_laws(), *undeclared(named), *unlisted(told, found, named)]
     for fault in faults:
         print(f"check_headline: {fault}")
     print(f"{int(not faults)} passed, {int(bool(faults))} failed")

@@ -67,10 +67,10 @@ def faults(room: str) -> Iterator[list[str]]:
         yield [listed.stdout + listed.stderr] if listed.stdout != LISTED else []
     page = open(f"{folder}/share/man/man1/pdp8.1", encoding="utf-8").read().replace("\\-", "-")
     commands, options = named()
-    yield [f"the page has no {it}" for it in commands if not re.search(rf"(?m)^\.B pdp8 {it}\b", page) and it != "pdp8"]
+    yield [f"the page has no {it}" for it in commands if not re.search(rf'(?m)^\.IP "\\fBpdp8 {it}\b', page) and it != "pdp8"]
     yield [f"the page has no {it}" for it in options if not re.search(rf"(?m)^\.IP .*{it}\b", page)]
     yield ["the sources name no command, or no option"] if len(commands) < 2 or not options else []
-    yield ["the page has 300 lines, or more"] if page.count("\n") >= 300 else []
+    yield ["the page has 350 lines, or more"] if page.count("\n") >= 350 else []
     if shutil.which("groff"):
         told = ran(["groff", "-man", "-ww", "-z", f"{folder}/share/man/man1/pdp8.1"], room)
         yield [told.stderr] if told.stderr or told.returncode else []
@@ -109,7 +109,7 @@ def faults_of_unproved(room: str) -> Iterator[list[str]]:
     yield [listed.stdout + listed.stderr] if listed.stdout != LISTED else []
     yield [] if b"Ctrl-\\ ends it" in shown_at_terminal([f"{own}/eight", "teletype", TAPE]) else ["teletype has no keys at a terminal"]
     page = open(f"{folder}/share/man/man1/eight.1", encoding="utf-8").read()
-    yield ["its page has another name"] if not page.startswith(".TH EIGHT 1 ") or ".B eight tape" not in page else []
+    yield ["its page has another name"] if not page.startswith(".TH EIGHT 1 ") or "\\fBeight tape" not in page else []
 
 
 def shown_at_terminal(words: list[str]) -> bytes:

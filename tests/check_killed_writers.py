@@ -3,14 +3,15 @@
 killed at random moments, among them runs that keep. Then the image must be sound. It must have just the files that were reported as stored and not as
 deleted, with their words. What a program that keeps has reported counts also where it was killed then. The image may also have the one that a killed
 program was at. The next writer must come in at once, and leave no file beside the image that killed ones made. Each killed program counts, and each file that was
-looked for. The last line is 'N passed, M failed'.
+looked for. Then disks that boot are killed while they are saved: each time the file must be that of one save, whole. The last line is 'N passed, M failed'.
 
-usage: check_killed_writers.py [--program FILE] [--kills N] [--seed N]
+usage: check_killed_writers.py [--program FILE] [--kills N] [--boots N] [--seed N]
 """
 import functools
 import os
 import random
 import signal
+import struct
 import subprocess
 import sys
 import tempfile
@@ -26,6 +27,7 @@ from tests.tally import Tally, fault_in
 
 PROGRAM = os.path.abspath(option("--program", f"{TOP}/crates/pdp8/out/pdp8"))
 KILLS = int(option("--kills", "60"))
+BOOTS = int(option("--boots", "100"))
 BUSY = b"? HOST BUSY\n"
 WRITERS = 3
 ROUND = 3 * WRITERS
@@ -218,11 +220,62 @@ def tried(folder: str, tally: Tally) -> str:
     return "\n".join(faults)
 
 
+# Sector 0 of a disk from the cell 00031 on: it counts each key in the cell 00061, and writes the cells 00000 to 00177 to sector 1. Then it waits for
+# the next key, and is saved.
+COUNTS = [0o6031, 0o5031, 0o6036, 0o7000, 0o2061, 0o7000, 0o7200, 0o1062, 0o6746, 0o6744, 0o1063, 0o6743, 0o6741, 0o5045, 0o5031, *[0] * 9, 0, 0o4100, 1]
+KEYS = 400
+
+
+def disk_of(count: int) -> bytes:
+    """The file of that disk once so many keys are counted; before the first one it has no sector 1."""
+    page = [*[0] * 0o31, *COUNTS, *[0] * (128 - 0o31 - len(COUNTS))]
+    first = struct.pack("<256H", *page, *[0] * 128)
+    page[0o61] = count
+    return first + struct.pack("<256H", *page, *[0] * 128) if count else first
+
+
+def boots(folder: str, tally: Tally) -> str:
+    """Has boots killed while they save their disk after each key, and says what is wrong with the file each time."""
+    name, chance, faults = f"{folder}/D", random.Random(int(option("--seed", "1"))), list[str]()
+    states = {disk_of(count): count for count in range(KEYS + 1)}
+    with open(name, "wb") as file:
+        file.write(disk_of(0))
+    seen, most, killed, tries = set[int](), 0.05, 0, 0
+    while killed < BOOTS and tries < 20 * BOOTS and not faults:
+        tries += 1
+        run = subprocess.Popen([PROGRAM, "boot", name, "--every", "1"], stdin=subprocess.PIPE, stdout=subprocess.DEVNULL, stderr=subprocess.DEVNULL)
+        assert run.stdin
+        run.stdin.write(b"A" * KEYS)
+        run.stdin.flush()
+        time.sleep(chance.uniform(0, most))
+        run.kill()
+        run.stdin.close()
+        killed += run.wait(MOST) == -signal.SIGKILL
+        count = states.get(open(name, "rb").read())
+        if count is None:
+            faults.append(f"boot {tries}: the file is not that of a save")
+        else:
+            seen.add(count)
+        most = min(most * 1.5, SLOWEST) if not seen - {0} else most
+    for _ in range(killed):
+        tally.add("boots", "")
+    if len(seen) < 3 or killed < BOOTS:
+        faults.append(f"{killed} boots are killed, which leave {len(seen)} files")
+    last = subprocess.run([PROGRAM, "boot", name], input=b"AAA", capture_output=True, timeout=MOST)
+    if last.returncode or open(name, "rb").read() != disk_of(3):
+        faults.append(f"the last boot: status {last.returncode}, {last.stderr!r}")
+    left = [it for it in os.listdir(folder) if it.startswith(".D.pdp8-")]
+    if left:
+        faults.append(f"the last boot leaves {len(left)} files beside the disk")
+    return "\n".join(faults)
+
+
 def main() -> int:
     tally = Tally()
-    with tempfile.TemporaryDirectory(prefix="pdp8-killed-") as folder:
-        fault = fault_in(functools.partial(tried, folder, tally))
-    tally.add("images", fault and f"check_killed_writers: {fault}")
+    for kind, work in (("images", tried), ("disks", boots)):
+        with tempfile.TemporaryDirectory(prefix="pdp8-killed-") as folder:
+            fault = fault_in(functools.partial(work, folder, tally))
+        tally.add(kind, fault and f"check_killed_writers: {fault}")
     return tally.end()
 
 

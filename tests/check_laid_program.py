@@ -18,7 +18,8 @@ sys.path.insert(0, TOP)
 from tests.stand_in_toolchain import Tree
 from tests.stand_ins import Result, append, report, results, write
 
-MORE = ("install", "release", "page", *(os.path.relpath(it, TOP) for part in ("web", "examples", "docs/using") for it in glob.glob(f"{TOP}/{part}/*")))
+PARTS = [it for part in ("web", "examples", "docs/using") for it in glob.glob(f"{TOP}/{part}/**", recursive=True) if os.path.isfile(it)]
+MORE = ("install", "release", "page", *(os.path.relpath(it, TOP) for it in PARTS))
 MADE, SUM, DEEP = "crates/pdp8/out/pdp8", "crates/pdp8/out/program/sum", "crates/low/src/deep/deeper/more.rt"
 NOT_PROVED = "the program is not proved as its sources stand; ./prove proves it\n"
 PROVED_PAGE = "proved with a kit and then compiled for WebAssembly."

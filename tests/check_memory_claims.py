@@ -2,116 +2,185 @@
 """check_memory_claims.py [--list]: want of memory comes from a call that lacked memory, and from nowhere else. No contract sees the allocator, so a body
 may answer `Memory` where nothing was refused, or ask for so much that it always is.
 
-Over the sources of the program, outside each crate's files of faults, three things are written only at the places of `PLACES`. They are a `Memory` of
-any fault, an `AllocError`, and a `with_capacity` or `reserve` of a constant above a page. Everywhere else want of memory comes by `?`, by
-`From<AllocError>`, or by an arm whose pattern is want of memory. A place that isn't listed fails, and so does one that is listed and isn't there.
+Over the sources of the program these are written only at the places of `PLACES`: a `Memory` of any fault, an `AllocError`, a fault that becomes one of
+them, and a `with_capacity` or `reserve` of a constant above a page. A fault becomes want of memory where an arm that names it answers that, as
+`DirFault::Device` does in a volume in memory. So does each fault of the crate's own that an arm catches without its name, each that such a fault holds,
+and what a `From` makes one of them of. Everywhere else want of memory comes by `?`, by `From<AllocError>`, or by an arm whose pattern is that very fault
+or want of memory. A place is listed by its text, with the pattern of its arm. One that isn't listed fails, and so does one that is listed and isn't there.
 --list prints the places. The last line is 'N passed, M failed', a file being one.
 """
 import os
 import re
 import sys
+from typing import Iterator
 
 sys.dont_write_bytecode = True
 TOP = os.path.dirname(os.path.dirname(os.path.abspath(__file__)))
 sys.path.insert(0, TOP)
-from tests.rattle_sources import crates_of_program, files_of, source
+from tests.match_arms import Arm, RunningText
+from tests.rattle_sources import closing, crate_of, crates_of_program, files_of, source
 
 PAGE = 4096
-WANT = r"(?:(?:\w+::)?\w+\()?(?:\(_, )?\w+::(?:Out[oO]f)?Memory\)*"
-# The functions that write one, by file, with how many they write and why.
-PLACES: dict[str, dict[str, tuple[int, str]]] = {
-    "archive_files/src/deleting.rt": {
-        "delete": (1, "the file service's own, on a line after its pattern"),
+FAULT = r"\b\w+::[A-Z]\w*\b"
+WANT = re.compile(r"\b\w+::(?:OutOf)?Memory\b|(?<![\w:])Memory\b|(?<![<:,] )(?<!<)\bAllocError\b(?! \{| as\b)")
+CATCHES = re.compile(r"(?:Err\()?(?:_\w*|[a-z]\w*)\)?")
+ENUM = re.compile(r"(?m)^(?:pub(?:\([\w: ]+\))? )?enum (\w+)[^{;]*\{")
+# The texts that each function writes, by file, and why.
+PLACES: dict[str, dict[str, dict[str, str]]] = {
+    "assemble_commands/src/faults.rt": {
+        "further_texts": {
+            "Err(_) => Err(Ending::Fault(SessionFault::Memory))": "the faults of sources of which one was found can fail for nothing else",
+        },
+        "pal8_further_texts": {
+            "Err(_) => Err(Ending::Fault(SessionFault::Memory))": "the faults of sources of which one was found can fail for nothing else",
+        },
     },
     "block_scan/src/segments.rt": {
-        "scratch_volume": (1, "a volume of as many blocks as another can fail for nothing else"),
-        "no_directory": (1, "a volume in memory refuses no read"),
-    },
-    "volume_index/src/choosing.rt": {
-        "is_chosen": (1, "`chosen`'s own, in the arm of its pattern"),
-        "text_holds": (1, "the text of a file can fail for nothing else"),
-    },
-    "volume_index/src/kinds.rt": {
-        "kind_of_words": (1, "`kind_of`'s own, in the arm of its pattern"),
-    },
-    "archive_many/src/wishes.rt": {
-        "add_word": (1, "`choose_files`'s own, in the arm of its pattern"),
-    },
-    "program/src/refused_words.rt": {
-        "text_of": (1, "`task`'s own, in the arm of its pattern"),
-    },
-    "get_commands/src/giving.rt": {
-        "tell_laid": (1, "`lay`'s own, which `line_of_laid` tells from the others"),
-    },
-    "pal8_asm/src/late.rt": {
-        "put": (1, "`late_value`'s own, in the arm of its pattern"),
-    },
-    "pal8_tape/src/marks.rt": {
-        "radix_at": (1, "`assemble`'s own, in the arm of its pattern"),
-    },
-    "archive_many/src/putting.rt": {
-        "put_all": (1, "a session's own, on a line after its pattern"),
-    },
-    "archive_files/src/opening.rt": {
-        "image_of": (1, "`to_bytes` can fail for nothing else"),
-    },
-    "script_commands/src/saves.rt": {
-        "save": (1, "`put_bytes` can fail for nothing else"),
-    },
-    "script_commands/src/scripts.rt": {
-        "new": (1, "room for lines, which is asked for once"),
-    },
-    "archive_files/src/renaming.rt": {
-        "give_name": (1, "the file service's own, on a line after its pattern"),
+        "scratch_volume": {
+            "Err(_) => Err(AllocError)": "a volume of as many blocks as another can fail for nothing else",
+        },
+        "no_directory": {
+            "DirFault::Memory | DirFault::Device => Err(AllocError)": "a volume in memory refuses no read",
+        },
     },
     "disk_layouts/src/copies.rt": {
-        "tape_volume": (1, "the image of a DECtape's volume, which is asked for once"),
+        "tape_volume": {
+            "let mut image = Vec::with_capacity(alloc, TAPE_VOLUME)?;": "the image of a DECtape's volume, which is asked for once",
+        },
     },
-    "tape_reports/src/given.rt": {
-        "flags_of": (1, "a flag for each cell of core, which is asked for once"),
+    "drive_files/src/opening.rt": {
+        "room_for": {
+            "let room = Vec::with_capacity(alloc, 512 * SECTORS)?;": "room for a whole pack, so that no save takes memory",
+        },
     },
-    "volume_salvage/src/salvages.rt": {
-        "fitted_volume": (1, "a volume of as many blocks as one that is there can be refused for nothing else"),
+    "run_commands/src/devices8e.rt": {
+        "whole_end": {
+            "Err(Ending::Fault(SessionFault::Memory))": "a paper that isn't whole lacks what memory was wanted for, and the run's end says so",
+        },
+    },
+    "get_commands/src/giving.rt": {
+        "tell_laid": {
+            "None => Err(Ending::Fault(SessionFault::Memory))": "`lay`'s own, which `line_of_laid` tells from the others",
+        },
     },
     "os8_files/src/service/changes.rt": {
-        "changed_directory": (1, "`without_file`, `with_new_file` and `moved_down` can fail for nothing else"),
+        "changed_directory": {
+            "Err(_) => Err(AllocError)": "`without_file`, `with_new_file` and `moved_down` can fail for nothing else",
+        },
     },
     "pal8_source/src/pools.rt": {
-        "flags_of": (1, "a flag for each cell of core, asked for once"),
+        "flags_of": {
+            "let mut flags = Vec::with_capacity(alloc, CORE)?;": "a flag for each cell of core, asked for once",
+        },
     },
     "pal8_source/src/sources.rt": {
-        "all_but": (1, "a flag for each cell of core, asked for once"),
-        "kept_cells": (1, "a flag for each cell of core, asked for once"),
+        "kept_cells": {
+            "let mut exempt = Vec::with_capacity(alloc, CORE)?;": "a flag for each cell of core, asked for once",
+        },
+        "all_but": {
+            "let mut left = Vec::with_capacity(alloc, CORE)?;": "a flag for each cell of core, asked for once",
+        },
     },
-    "tape_source/src/sources.rt": {
-        "words_in": (1, "a word or none for each cell of core, asked for once"),
+    "pal8_tape/src/faults.rt": {
+        "from": {
+            "SourceFault::Memory": "a `JoinFault` is nothing else",
+        },
     },
-    "tape_source/src/tags.rt": {
-        "named_cells": (1, "a flag for each cell of core, asked for once"),
+    "script_commands/src/saves.rt": {
+        "save": {
+            "return Err(Ending::Fault(SessionFault::Memory));": "`put_bytes` can fail for nothing else",
+        },
+    },
+    "script_commands/src/scripts.rt": {
+        "new": {
+            "let lines = Vec::with_capacity(alloc, ROOM)?;": "room for lines, which is asked for once",
+        },
     },
     "system/src/files.rt": {
-        "given_word": (1, "no word of the command line has more bytes than the largest room"),
+        "given_word": {
+            "Err(AllocError)": "no word of the command line has more bytes than the largest room",
+        },
     },
     "system_session/src/consoles.rt": {
-        "new": (1, "`Core::new` can fail for nothing else"),
+        "new": {
+            "return Err(DebugFault::Memory);": "`Core::new` can fail for nothing else",
+        },
     },
     "system_session/src/endings.rt": {
-        "": (1, "the type of how a run ends"),
-        "from": (2, "its `From<AllocError>`; of its calls' faults all but the reader's are want of memory"),
+        "from": {
+            "_ => Ending::Memory": "of its calls' faults all but the reader's are want of memory",
+        },
     },
     "system_session/src/sessions.rt": {
-        "mount": (1, "the line or the console was refused, and the store is handed back"),
-        "run": (1, "the entry's answer is want of memory"),
+        "mount": {
+            "return Err((store, DirFault::Memory));": "the line or the console was refused, and the store is handed back",
+        },
+        "run": {
+            "return Err(SessionFault::Memory);": "the entry's answer is want of memory",
+        },
     },
     "system_session/src/sessions/scripts.rt": {
-        "run_entry": (1, "the entry's answer is want of memory"),
-        "run_turn": (1, "the turn's answer is want of memory"),
+        "run_entry": {
+            "return Err(Ending::Memory);": "the entry's answer is want of memory",
+        },
+        "run_turn": {
+            "return Err(Ending::Memory);": "the turn's answer is want of memory",
+        },
+    },
+    "tape_reports/src/given.rt": {
+        "flags_of": {
+            "let mut flags = Vec::with_capacity(alloc, CORE)?;": "a flag for each cell of core, which is asked for once",
+        },
+    },
+    "tape_source/src/sources.rt": {
+        "words_in": {
+            "let mut words = Vec::with_capacity(alloc, CORE)?;": "a word or none for each cell of core, asked for once",
+        },
+    },
+    "tape_source/src/tags.rt": {
+        "named_cells": {
+            "let mut tags = Vec::with_capacity(alloc, CORE)?;": "a flag for each cell of core, asked for once",
+        },
     },
     "trace8/src/traces.rt": {
-        "trace": (1, "the lines that wait, some pages, asked for once"),
+        "trace": {
+            "let mut lines = Vec::with_capacity(alloc, HANDED_ON_AT_ONCE + LONGEST_LINE)?;": "the lines that wait, some pages, asked for once",
+        },
     },
     "trace8e/src/traces.rt": {
-        "trace": (1, "the lines that wait, some pages, asked for once"),
+        "trace": {
+            "let mut lines = Vec::with_capacity(alloc, HANDED_ON_AT_ONCE + LONGEST_LINE)?;": "the lines that wait, some pages, asked for once",
+        },
+    },
+    "volume_image/src/fuses.rt": {
+        "read": {
+            "return Err(DeviceFault);": "a fuse is made to refuse a read",
+        },
+        "write": {
+            "return Err(DeviceFault);": "a fuse is made to refuse a write",
+        },
+    },
+    "volume_index/src/choosing.rt": {
+        "text_holds": {
+            "Err(_) => Err(AllocError)": "the text of a file can fail for nothing else",
+        },
+    },
+    "volume_salvage/src/salvages.rt": {
+        "fitted_volume": {
+            "Err(_) => Err(AllocError)": "a volume of as many blocks as one that is there can be refused for nothing else",
+        },
+    },
+    "volume_salvage/src/volumes.rt": {
+        "mount_new": {
+            "Err(_) => Err(RescueFault::Unread)": "a new volume has no fault of its own",
+        },
+        "keep_file": {
+            "return Err(Refusal::NoName(place));": "its first word is 0",
+            "return Err(Refusal::NotWhole(place));": "it has no word, or a part of a block",
+            "Err(FileFault::NoRoom(largest)) => Err(Refusal::NoRoom(place, largest))": "the file service's own, in the arm of its pattern",
+            "Err(FileFault::DirectoryFull) => Err(Refusal::DirectoryFull(place))": "the file service's own, in the arm of its pattern",
+            "Err(_) => Err(Refusal::Failed(place))": "the call failed, and not for the file",
+        },
     },
 }
 
@@ -130,57 +199,138 @@ def is_large(asked: str, known: dict[str, int]) -> bool:
     return any(it > PAGE for it in numbers) or any(known.get(it, PAGE + 1) > PAGE for it in names)
 
 
-def wants(line: str, known: dict[str, int]) -> int:
-    """How many wants of memory a line makes up."""
-    if line.startswith(("use ", "pub use ")):
-        return len(re.findall(r"\bMemory\b|\bAllocError as\b", line))
-    pattern, arrow, rest = line.rpartition("=>")
-    made = rest if arrow else line
-    if arrow and re.fullmatch(WANT, pattern.strip()):
-        made = re.sub(r"\b\w+::Memory\b", "", made)
-    count = len(re.findall(r"\bMemory\b(?! =>)", made)) + len(re.findall(r"(?<![<:,] )(?<!<)\bAllocError\b", made))
-    for asked in re.findall(r"\b(?:with_capacity|reserve\w*)\((.*)\)", line):
-        count += is_large(asked, known)
-    return count
+class File:
+    """A source of the program: what runs of it, the faults that it declares with what each holds, and what a `From` makes of which type."""
+
+    def __init__(self, path: str) -> None:
+        self.path, self.crate = path, crate_of(path)
+        self.name = os.path.relpath(path, f"{TOP}/crates")
+        self.running = RunningText(source(path))
+        mask = source(path).mask
+        self.faults = {it[1]: mask[it.end() : closing(mask, it.end() - 1)] for it in ENUM.finditer(mask)}
+        self.answers = dict(re.findall(r"\bfn (\w+)[^{;]*?-> Result<[^{;]*?, (\w+)>", mask))
+        # The lines of each `From`, what it is of and for.
+        self.conversions = [(mask.count("\n", 0, it.begin), mask.count("\n", 0, it.end) + 1, it.of, it.owner) for it in source(path).blocks if it.trait == "From"]
+
+    def conversion_at(self, place: int) -> tuple[str, str]:
+        """Of which type and for which a `From` is, in which a place stands."""
+        number = self.running.line_at(place)[0]
+        return next(((of, owner) for first, last, of, owner in self.conversions if first < number <= last), ("", ""))
+
+    def wants(self, followed: set[str]) -> Iterator[int]:
+        """The places where want of memory is made up, or a fault that becomes it."""
+        text = self.running.text
+        # (a bare name is that of a type, which is made up where it isn't one)
+        names = [rf"\b{it}\b" if "::" in it else rf"(?<![<:,] )(?<!<)(?<!struct )\b{it}\b(?! \{{)" for it in sorted(followed)]
+        pattern = re.compile("|".join([WANT.pattern, *names]))
+        for it in pattern.finditer(text):
+            line = self.running.line_at(it.start())[2]
+            if line.startswith(("use ", "pub use ")):
+                if re.search(r"\bMemory\b|\bAllocError as\b", line):
+                    yield it.start()
+            elif line != "Memory," and not self.is_converted(it.start(), it[0]) and not self.is_given(it.start(), it[0], followed):
+                yield it.start()
+
+    def is_converted(self, place: int, fault: str) -> bool:
+        """Whether a fault stands in a `From` that is given it: one of `AllocError`, or for one that isn't want of memory itself."""
+        of, _ = self.conversion_at(place)
+        return of == "AllocError" or bool(of) and not WANT.search(fault)
+
+    def is_given(self, place: int, fault: str, followed: set[str]) -> bool:
+        """Whether a fault stands in a pattern, or in an arm of which each pattern is that fault or want of memory."""
+        if self.running.is_in_pattern(place):
+            return True
+        arm = self.running.arm_at(place)
+        return bool(arm) and all(WANT.search(it) or (fault in followed and fault in it) for it in parts(arm))
 
 
-def places() -> tuple[dict[tuple[str, str], int], dict[tuple[str, str], list[str]], list[str]]:
-    """How many wants of memory each function makes up, by file, and the lines."""
-    found: dict[tuple[str, str], int] = {}
+def parts(arm: "Arm | None") -> list[str]:
+    """The patterns of an arm."""
+    return re.split(r" ?\| ", arm.pattern.removeprefix("| ")) if arm else []
+
+
+def owned(name: str, files: list[File], crate: str) -> Iterator[str]:
+    """The faults of a type that a crate declares, and those that they hold."""
+    for file in files:
+        if file.crate == crate and name in file.faults:
+            for variant, held in re.findall(r"(?m)^\s*([A-Z]\w*)(?:\(([^)]*)\))?,", re.sub(r"#\[[^\]]*\]", "", file.faults[name])):
+                yield f"{name}::{variant}"
+                for it in re.findall(r"\b[A-Z]\w*", held):
+                    yield from owned(it, files, crate)
+
+
+def caught(arm: Arm, file: File, files: list[File]) -> Iterator[str]:
+    """The faults that become what an arm answers: those that it names, or those of the crate's own that it catches without their names."""
+    text, arms = file.running.text, file.running.arms
+    for part in parts(arm):
+        named = re.findall(FAULT, part)
+        yield from named if not WANT.search(part) else ()
+        if CATCHES.fullmatch(part):
+            siblings = [it for it in arms if it is not arm and file.running.match_at(it) == file.running.match_at(arm)]
+            beside = {it for sibling in siblings for it in re.findall(FAULT, sibling.pattern)}
+            call = re.search(r"(\w+)\([^{};]*\) \Z", text[: file.running.match_at(arm)])
+            called = {it.answers[call[1]] for it in files if it.crate == file.crate and call and call[1] in it.answers}
+            for name in {it.split("::")[0] for it in beside} | called:
+                yield from (it for it in owned(name, files, file.crate) if it not in beside)
+
+
+def followed_faults(files: list[File]) -> set[str]:
+    """The faults that become want of memory in some arm, and those types of which a `From` makes one of them."""
+    found = set[str]()
+    for file in files:
+        for place in file.wants(set()):
+            if arm := file.running.arm_at(place):
+                found |= {it for it in caught(arm, file, files) if not WANT.search(it)}
+    for file in files:
+        for made in re.finditer(rf"({FAULT})\n", file.running.text):
+            of, _ = file.conversion_at(made.start())
+            if of and made[1] in found:
+                found.add(of)
+    return found
+
+
+def places() -> tuple[dict[tuple[str, str], list[str]], dict[tuple[str, str], list[str]], list[str]]:
+    """The texts of what each function makes up, by file, and the lines."""
+    files = [File(path) for crate in crates_of_program() for path in files_of(crate)]
+    followed = followed_faults(files)
+    found: dict[tuple[str, str], list[str]] = {}
     lines: dict[tuple[str, str], list[str]] = {}
-    files = []
-    for crate in crates_of_program():
-        paths = files_of(crate)
-        known = constants(paths)
-        for path in paths:
-            if os.path.basename(path).endswith("faults.rt") or path.split("/src/")[0].endswith("_faults"):
-                continue
-            file = os.path.relpath(path, f"{TOP}/crates")
-            files.append(file)
-            for number, name, line in source(path).lines_that_run():
-                if count := wants(line, known):
-                    found[file, name] = found.get((file, name), 0) + count
-                    lines.setdefault((file, name), []).append(f"{number}: {line}")
-    return found, lines, files
+    known = {crate: constants(files_of(crate)) for crate in crates_of_program()}
+    for file in files:
+        made = [(it, file.running.text_at(it)) for it in file.wants(followed)]
+        made += [(it, file.running.line_at(it)[2]) for it in large(file, known[file.crate])]
+        for place, text in made:
+            number, name, line = file.running.line_at(place)
+            found.setdefault((file.name, name), []).append(text)
+            lines.setdefault((file.name, name), []).append(f"{number}: {line}")
+    return found, lines, [it.name for it in files]
+
+
+def large(file: File, known: dict[str, int]) -> Iterator[int]:
+    """The places where more is asked for at once than a page."""
+    for it in re.finditer(r"\b(?:with_capacity|reserve\w*)\((.*)\)", file.running.text):
+        if is_large(it[1], known):
+            yield it.start()
 
 
 def main() -> int:
     found, lines, files = places()
     if "--list" in sys.argv:
-        for place, count in found.items():
-            print(*place, count, *lines[place], sep="\n    ")
+        for place, texts in found.items():
+            print(*place, *texts, sep="\n    ")
         return 0
-    listed = {(file, name): count for file, names in PLACES.items() for name, (count, _) in names.items()}
+    listed = {(file, name): [*texts] for file, names in PLACES.items() for name, texts in names.items()}
     bad = set[str]()
     for place in sorted(found.keys() | listed.keys()):
-        if found.get(place, 0) != listed.get(place, 0):
+        texts, wanted = found.get(place, []), listed.get(place, [])
+        if sorted(texts) != sorted(wanted):
             file, name = place
-            print(f"check_memory_claims: {file}, {name}: {found.get(place, 0)} wants of memory are made up, {listed.get(place, 0)} listed", *lines.get(place, []), sep="\n    ")
+            print(f"check_memory_claims: {file}, {name}: {len(texts)} wants of memory are made up, {len(wanted)} listed", *texts, *lines.get(place, []), sep="\n    ")
             bad.add(file)
     if not files:
         print("check_memory_claims: there is no source")
         bad.add("")
-    print(f"check_memory_claims: {sum(found.values())} wants of memory, in {len(found)} functions\n{len({*files, *bad}) - len(bad)} passed, {len(bad)} failed")
+    print(f"check_memory_claims: {sum(map(len, found.values()))} wants of memory, in {len(found)} functions\n{len({*files, *bad}) - len(bad)} passed, {len(bad)} failed")
     return 1 if bad else 0
 
 

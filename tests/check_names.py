@@ -30,6 +30,7 @@ SMALL = set("of by at in with to from on for as off up out into after before ove
 STAY = {
     ("cpu8", "held_off"): "interrupts that ION holds off: the handbook's word",
     ("cpu8", "left"): "the direction of a rotation",
+    ("cpu8", "stored"): "of core: what it is after words are stored in it",
     ("cpu8e", "held_off"): "as in cpu8",
     ("os8_files", "stopped"): "of a file service: the state of that name",
     ("pal8_pools", "punched"): "of a cell: it goes to the tape, as ENPUNCH says",

@@ -1,6 +1,6 @@
 #!/usr/bin/env python3
 """check_octal_numbers.py: the machine's numbers are octal, as the handbook has them. In the definitions and sources of the program's crates no core,
-field, page, sign or mask stands in decimal, nor does one in comments. The number 4095 stands there only as the most blocks of a volume, which people
+field, page, sign or mask stands in decimal, nor does one in comments; a text that is printed may count in it. The number 4095 stands there only as the most blocks of a volume, which people
 count. The last line is 'N passed, M failed', a file being one.
 """
 import glob
@@ -17,6 +17,7 @@ from tests.rattle_sources import crates_of_program
 # those that count a volume's blocks
 COUNT_BLOCKS = {"archive_files", "command_table", "command_refusals", "command_line", "volume_jobs", "os8_dir", "os8_files", "volume_image", "image_kind", "volume_salvage", "monitor8", "outcome", "program_tasks", "word12"}
 DECIMAL = re.compile(r"(?<![\w.])(32768|32767|8192|8191|4096|3072|2048|2047|128|127)(?![\w]|\.\d)")
+TEXT = re.compile(r'"[^"]*"')
 MOST = re.compile(r"(?<![\w.])4095(?![\w]|\.\d)")
 
 
@@ -25,6 +26,7 @@ def faults(crate: str, path: str) -> Iterator[str]:
     with open(path, encoding="utf-8") as text:
         lines = text.readlines()
     for number, line in enumerate(lines, 1):
+        line = TEXT.sub('""', line)
         found = DECIMAL.search(line) or (crate not in COUNT_BLOCKS and MOST.search(line))
         if found:
             yield f"{os.path.relpath(path, TOP)}:{number}: {found[0]} is 0o{int(found[0]):o}"

@@ -1,7 +1,7 @@
 #!/usr/bin/env python3
 """check_terminal.py [--program FILE] [--launch FILE] [CASE..]: runs programs at the Teletype through a pseudo-terminal, as a person would, with what ./pdp8 and an installed
 pdp8 do around the program. It tries keys one by one and in bursts, the game, each end, and each way in which the program or the shell around it can
-be ended. Each time it looks that the terminal is as it was, and that no process is left. It looks at an index as a terminal shows it, and answers what `create` asks there. Another launcher may be given, and some of the cases alone. The last line is
+be ended. A disk that boots is tried so too, and must be saved. Each time it looks that the terminal is as it was, and that no process is left. It looks at an index as a terminal shows it, and answers what `create` asks there. Another launcher may be given, and some of the cases alone. The last line is
 'N passed, M failed'.
 """
 import argparse
@@ -12,6 +12,7 @@ import re
 import select
 import shutil
 import signal
+import struct
 import subprocess
 import sys
 import tempfile
@@ -31,15 +32,19 @@ READY = b"Ctrl-\\ ends it\r\n"
 ECHO = [0o6031, 0o5200, 0o6036, 0o6046, 0o6041, 0o5204, 0o5200]
 # prints a dot for each 4096 looks at the keyboard that find no key, and ends at a key
 DOTS = [0o6031, 0o7410, 0o7402, 0o2210, 0o5200, 0o1211, 0o6046, 0o5212, 0o0000, 0o0256, 0o7200, 0o5200]
+# Sector 0 of a disk from the cell 00031 on: it prints each key, counts it in the cell 00061, and writes the cells 00000 to 00177 to sector 1. Then
+# it waits for a key again, or in the second one loops for ever.
+COUNTS = [0o6031, 0o5031, 0o6036, 0o6046, 0o2061, 0o7000, 0o7200, 0o1062, 0o6746, 0o6744, 0o1063, 0o6743, 0o6741, 0o5045, 0o5031, *[0] * 9, 0, 0o4100, 1]
+LOOPS = [*COUNTS[:14], 0o5047, *COUNTS[15:]]
 
 
 class Sitting:
     """A program at a pseudo-terminal."""
 
-    def __init__(self, folder: str, *words: str, more: str = "") -> None:
+    def __init__(self, folder: str, *words: str, more: str = "", command: str = "teletype") -> None:
         self.said = b""
         self.status: int | None = None
-        command = f'. ./launch; launch ./pdp8 teletype "$@" {more}'
+        command = f'. ./launch; launch ./pdp8 {command} "$@" {more}'
         self.shell, self.terminal = pty.fork()
         if self.shell == 0:
             # who runs the gate in the background, or by nohup, has these ignored, and what inherits that isn't ended by them
@@ -134,8 +139,8 @@ def ended(sitting: Sitting, child: int, status: int, what: str) -> list[str]:
     return told
 
 
-def begun(folder: str, *words: str, more: str = "") -> tuple[Sitting, int, list[str]]:
-    sitting = Sitting(folder, *words, more=more)
+def begun(folder: str, *words: str, more: str = "", command: str = "teletype") -> tuple[Sitting, int, list[str]]:
+    sitting = Sitting(folder, *words, more=more, command=command)
     told = [] if sitting.waits_for(READY) else [f"no first line: {sitting.said!r}"]
     child = sitting.child()
     return sitting, child, told + ([] if child else ["there is no program below the shell"])
@@ -199,6 +204,73 @@ def killed(folder: str) -> list[str]:
         os.kill(sitting.shell if whom == "shell" or not child else child, number)
         told += more + ended(sitting, child, status, what)
     return told
+
+
+def disk(folder: str, words: list[int]) -> str:
+    """The file of a disk of one sector that has these words from the cell 00031 on."""
+    with open(f"{folder}/D", "wb") as file:
+        file.write(struct.pack("<256H", *[0] * 0o31, *words, *[0] * (256 - 0o31 - len(words))))
+    return f"{folder}/D"
+
+
+def counted(folder: str) -> int:
+    """How many keys sector 1 of the disk has counted; -1 where there is none."""
+    held = open(f"{folder}/D", "rb").read()
+    return int.from_bytes(held[610:612], "little") if len(held) == 1024 else -1
+
+
+def boots(folder: str) -> list[str]:
+    """A disk that boots: its keys come one by one, and each way in which the run is ended but by SIGKILL saves it, while it waits and while it loops."""
+    told = []
+    for words, what in ((COUNTS, "a wait"), (LOOPS, "a loop")):
+        for how, status in (("Ctrl-\\", 131), ("SIGHUP", 129), ("SIGTERM", 143), ("SIGKILL", -9), ("hang-up", None)):
+            disk(folder, words)
+            sitting, child, more = begun(folder, "D", command="boot")
+            keys = b"AB" if words is COUNTS else b"A"
+            for place in range(len(keys)):
+                sitting.strikes(keys[place : place + 1])
+                more += [] if sitting.waits_for(READY + keys[: place + 1]) else [f"no echo: {sitting.said!r}"]
+            if how == "Ctrl-\\":
+                sitting.strikes(b"\x1c")
+            elif how == "hang-up":
+                os.close(sitting.terminal)
+                os.waitpid(sitting.shell, 0)
+            else:
+                os.kill(sitting.shell, getattr(signal, how))
+            if how == "hang-up":
+                more += [] if is_gone(child) else ["the program is left"]
+            else:
+                assert status is not None
+                more += ended(sitting, child, status, how)
+            more += [] if counted(folder) == len(keys) else [f"{counted(folder)} keys are saved, not {len(keys)}"]
+            told += [f"{how} in {what}: {it}" for it in more]
+    return told + saves(folder) + looks(folder)
+
+
+def saves(folder: str) -> list[str]:
+    """A disk is saved while a key is waited for, without an end of the run; a kill leaves that."""
+    disk(folder, COUNTS)
+    sitting, child, told = begun(folder, "D", "--every", "1", command="boot")
+    for count in (1, 2, 3):
+        sitting.strikes(b"A")
+        begin = time.monotonic()
+        while counted(folder) != count and time.monotonic() - begin < PATIENCE:
+            sitting.read(0.02)
+        told += [] if counted(folder) == count else [f"{counted(folder)} keys are saved in the run, not {count}"]
+    os.kill(child, signal.SIGKILL)
+    told += ended(sitting, child, 137, "SIGKILL of a boot")
+    return told + ([] if counted(folder) == 3 else [f"a kill leaves {counted(folder)} keys"])
+
+
+def looks(folder: str) -> list[str]:
+    """A look at a disk leaves its file."""
+    old = open(disk(folder, COUNTS), "rb").read()
+    sitting, child, told = begun(folder, "D", "--look", "--capitals", command="boot")
+    sitting.strikes(b"a")
+    told += [] if sitting.waits_for(READY + b"A") else [f"no capital: {sitting.said!r}"]
+    sitting.strikes(b"\x1c")
+    told += ended(sitting, child, 131, "a look")
+    return told + ([] if open(f"{folder}/D", "rb").read() == old else ["a look changes the file"])
 
 
 def streams(folder: str) -> list[str]:
@@ -299,7 +371,7 @@ def creation(folder: str) -> list[str]:
     return told + ([] if (said, status) == (b"note: W: a file of that name is there\r\n? HOST EXISTS\r\n", 1) else [f"a first volume: {said!r} {status}"])
 
 
-CASES: dict[str, Callable[[str], list[str]]] = {it.__name__: it for it in (game, keys, waiting, killed, streams, index, creation)}
+CASES: dict[str, Callable[[str], list[str]]] = {it.__name__: it for it in (game, keys, waiting, killed, boots, streams, index, creation)}
 
 
 def tried(case: Callable[[str], list[str]], program: str, launcher: str) -> str:

@@ -15,7 +15,7 @@ import tempfile
 from typing import Callable
 
 TOP = os.path.dirname(os.path.dirname(os.path.abspath(__file__)))
-FOLDERS = ("build", "tests", "bench")
+FOLDERS = ("build", "tests", "bench", "examples")
 Faults = dict[str, list[str]]
 
 

@@ -1,7 +1,7 @@
 """The counts of tests/counts.txt: how much each part of the gate must count, and how many sessions, wrong bodies, defects, faults and liars there
 are. A row is `GATE | WORDS | COUNTS`. GATE is `whole`, `quick` or `both`, or `tree` where the WORDS name what is counted in the tree. COUNTS are `N`
-or `KIND N, KIND N`, each with `at least` before its number where chance or the text of the sources decides it. `needs COMMAND ..` in a fourth column
-says that without these commands the part counts less, which it may but where CI is set.
+or `KIND N, KIND N`, each with `at least` or `at most` before its number where chance or the text of the sources decides it. `needs COMMAND ..` in a fourth
+column says that without these commands the part counts less, which it may but where CI is set.
 """
 import collections
 import glob
@@ -13,7 +13,7 @@ from typing import Mapping
 
 TOP = os.path.dirname(os.path.dirname(os.path.abspath(__file__)))
 FILE = f"{TOP}/tests/counts.txt"
-COUNT = re.compile(r"(?:(?!at least )(?P<kind>.*?\S) )?(?P<least>at least )?(?P<number>\d+)")
+COUNT = re.compile(r"(?:(?!at (?:least|most) )(?P<kind>.*?\S) )?(?:(?P<least>at least )|(?P<most>at most ))?(?P<number>\d+)")
 
 # What was counted, by kind. What has no kinds stands under an empty one.
 Counts = dict[str, int]
@@ -25,12 +25,13 @@ class BadRow(ValueError):
 
 @dataclass
 class Row:
-    """How much of something there must be, by kind: exactly, or at least."""
+    """How much of something there must be, by kind: exactly, at least, or at most."""
 
     gate: str
     words: str
     wanted: Counts
     least: set[str]
+    most: set[str]
     needs: list[str]
 
     def is_asked(self) -> bool:
@@ -45,23 +46,24 @@ class Row:
 
     def is_right(self, kind: str, count: int) -> bool:
         wanted = self.wanted.get(kind, 0)
-        return count >= wanted if kind in self.least else count == wanted
+        return count >= wanted if kind in self.least else count <= wanted if kind in self.most else count == wanted
 
 
 def shown(row: Row, kind: str) -> str:
-    return f"{'at least ' * (kind in row.least)}{row.wanted.get(kind, 0)}"
+    return f"{'at least ' * (kind in row.least)}{'at most ' * (kind in row.most)}{row.wanted.get(kind, 0)}"
 
 
 def read_row(line: str) -> Row:
     """The row that a line is."""
     gate, words, counts, *more = (it.strip() for it in line.split("|"))
-    row = Row(gate, words, {}, set(), more[0].removeprefix("needs ").split() if more else [])
+    row = Row(gate, words, {}, set(), set(), more[0].removeprefix("needs ").split() if more else [])
     for it in counts.split(", "):
         count = COUNT.fullmatch(it)
         if not count or (count["kind"] or "") in row.wanted:
             raise BadRow(f"tests/counts.txt: {line.strip()}: {it} is no count")
         row.wanted[count["kind"] or ""] = int(count["number"])
         row.least |= {count["kind"] or ""} if count["least"] else set()
+        row.most |= {count["kind"] or ""} if count["most"] else set()
     return row
 
 

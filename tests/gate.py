@@ -36,6 +36,7 @@ KEPT = f"{TOP}/target/gate.json"
 PROVED = [(f"crates/pdp8/out/pdp8{by}", f"crates/short_memory/out/short_memory{by}") for by in ("", ".by-rattle")]
 PAL8_STATEMENTS = ("tests/model/compare_pal8_statements.py", "--program", "crates/pal8_bench/out/pal8_bench")
 PAL8_SOURCES = ("tests/model/compare_pal8_sources.py", "--program", "crates/pal8_asm_bench/out/pal8_asm_bench")
+SIMH = ("tests/model/compare_simh.py",)
 HOSTS = ("tests/hosts/check_saves.py", "--program", "crates/host_trial/out/host_trial")
 UNPROVED = ("target/unproved/pdp8/pdp8", "target/unproved/short_memory/short_memory")
 LIARS = ("tests/check_liars.py",)
@@ -52,7 +53,7 @@ RUNS += [("tests/check_terminal.py",), ("tests/check_killed_writers.py",), ("tes
 RUNS += [("tests/hosts/check_races.py",)]
 RUNS += [("tests/hosts/check_shown_names.py",)]
 RUNS += [("tests/model/check_pal8_rows.py",), ("tests/model/compare_indexes.py",), ("tests/model/compare_lenient.py",), ("tests/model/compare_scans.py",)]
-RUNS += [("tests/model/compare_kinds.py",)]
+RUNS += [("tests/model/compare_kinds.py",), ("tests/model/compare_machine8e.py",)]
 RUNS += [("tests/model/compare_pal8_faults.py",), ("tests/model/compare_pal8_tapes.py",), ("tests/model/compare_pal8_notes.py",)]
 # What a line says that tells of a failure.
 FAILS = re.compile(r"\bNOT\b|\bfail(?!ed$)|\bbroke off\b|\berror\b")
@@ -61,6 +62,7 @@ FEW: dict[str, Words] = {"tests/model/compare_scripts.py": ("--scripts", "50"), 
 FEW["tests/model/compare_indexes.py"] = ("--images", "200")
 FEW["tests/model/compare_lenient.py"] = ("--images", "60")
 FEW["tests/model/compare_kinds.py"] = ("--files", "60")
+FEW["tests/model/compare_machine8e.py"] = ("--runs", "40")
 FEW["tests/model/compare_scans.py"] = ("--volumes", "40")
 FEW["tests/model/compare_pal8_faults.py"] = ("--sources", "100")
 FEW["tests/model/compare_pal8_tapes.py"] = ("--cases", "60")
@@ -76,8 +78,8 @@ def parts(is_quick: bool) -> list[list[Words]]:
     """What is run: one group after the other, the parts of a group side by side."""
     if is_quick:
         runs = [(*it, *FEW.get(it[0], ())) for it in runs_of(*UNPROVED)]
-        return [[("tests/build_with_checks.sh",), (*DEFECTS, "--quick"), *TEXTS], [(*LIARS, "--quick"), ("tests/page/check_page.sh", "--quick"), ("tests/check_builds.py",), ("tests/hosts/check_saves.py",), *runs]]
-    rest = [("tests/page/check_page.sh",), ("tests/try_edits.py", "--gate"), ("tests/check_install.py",), ("tests/check_release.py",), PAL8_STATEMENTS, PAL8_SOURCES, HOSTS, LIARS]
+        return [[("tests/build_with_checks.sh",), (*DEFECTS, "--quick"), *TEXTS], [(*LIARS, "--quick"), ("tests/page/check_page.sh", "--quick"), ("tests/check_builds.py",), ("tests/hosts/check_saves.py",), (*SIMH, "--runs", "100"), *runs]]
+    rest = [("tests/page/check_page.sh",), ("tests/try_edits.py", "--gate"), ("tests/check_install.py",), ("tests/check_release.py",), PAL8_STATEMENTS, PAL8_SOURCES, SIMH, HOSTS, LIARS]
     for program, short in PROVED:
         rest += runs_of(program, short)
     return [[DEFECTS, *TEXTS], [RT_CI, ("tests/build_with_checks.sh",), ("tests/check_builds.py",)], [*rest, ("tests/run_sessions.py", "--unproved")]]

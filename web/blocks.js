@@ -1,4 +1,4 @@
-// The picture of a volume: a square for each block, by the lines of `check`.
+// The picture of a volume: a square for each block, by the lines of `check`. The sectors of a drive are drawn so, too.
 import { $, made } from './dom.js';
 
 const COLOURS = ['directory', 'file', 'file-2', 'found', 'empty', 'outside', 'fault', 'paper'];
@@ -63,24 +63,8 @@ export class Blocks {
     // Draws the picture.
     draw() {
         if (!this.all.length) return;
-        const canvas = $('blocks'), width = Math.max(200, canvas.clientWidth);
-        const count = this.all.length, across = Math.max(32, Math.min(Math.floor(width / 6), Math.ceil(Math.sqrt(count * 6))));
-        const side = Math.floor(width / across), down = Math.ceil(count / across), scale = devicePixelRatio || 1;
-        this.across = width / across;
-        canvas.width = width * scale;
-        canvas.height = down * side * scale;
-        canvas.style.height = `${down * side}px`;
-        this.side = side;
-        const colours = coloursNow();
-        const brush = /** @type {CanvasRenderingContext2D} */ (canvas.getContext('2d'));
-        brush.scale(scale, scale);
-        this.all.forEach(({ kind }, block) => {
-            const x = block % across * this.across, y = Math.floor(block / across) * side;
-            brush.fillStyle = colours[kind];
-            brush.fillRect(x, y, this.across - (side > 4 ? 1 : 0), side - (side > 4 ? 1 : 0));
-            brush.fillStyle = brush.strokeStyle = colours.paper;
-            if (side > 4) mark(brush, kind, x, y, this.across - 1, side - 1);
-        });
+        const canvas = $('blocks'), count = this.all.length;
+        ({ across: this.across, side: this.side } = squares(canvas, this.all.map(it => it.kind)));
         const free = this.all.filter(it => it.kind === 'empty').length;
         canvas.setAttribute('aria-label', this.refusal ? `Volume of ${count} blocks, refused: ${this.refusal}`
             : `Volume of ${count} blocks: ${this.files} files, ${free} blocks empty`);
@@ -107,6 +91,27 @@ export class Blocks {
     }
 }
 
+// Draws a square for each of these kinds, row by row, and gives how far one is from the next, and how high it is. No square is smaller than `least`.
+/** @param {HTMLCanvasElement} canvas @param {string[]} kinds @param {number} [least] */
+export function squares(canvas, kinds, least = 6) {
+    const width = Math.max(200, canvas.clientWidth), most = Math.floor(width / least), columns = Math.max(32, least < 6 ? most : Math.min(most, Math.ceil(Math.sqrt(kinds.length * 6))));
+    const side = Math.floor(width / columns), down = Math.ceil(kinds.length / columns), scale = devicePixelRatio || 1, across = width / columns;
+    canvas.width = width * scale;
+    canvas.height = down * side * scale;
+    canvas.style.height = `${down * side}px`;
+    const colours = coloursNow(canvas);
+    const brush = /** @type {CanvasRenderingContext2D} */ (canvas.getContext('2d'));
+    brush.scale(scale, scale);
+    kinds.forEach((kind, block) => {
+        const x = block % columns * across, y = Math.floor(block / columns) * side;
+        brush.fillStyle = colours[kind];
+        brush.fillRect(x, y, across - (side > 4 ? 1 : 0), side - (side > 4 ? 1 : 0));
+        brush.fillStyle = brush.strokeStyle = colours.paper;
+        if (side > 4) mark(brush, kind, x, y, across - 1, side - 1);
+    });
+    return { across, side };
+}
+
 // A mark in a square, so no kind is known by its colour alone: a bar, a bar that stands, a hole, or a cross.
 /** @param {CanvasRenderingContext2D} brush @param {string} kind @param {number} x @param {number} y @param {number} width @param {number} height */
 function mark(brush, kind, x, y, width, height) {
@@ -124,9 +129,10 @@ function mark(brush, kind, x, y, width, height) {
 }
 
 // The colours of the style, light or dark, as a canvas takes them. The style is worked out once for all of them.
-function coloursNow() {
+/** @param {HTMLCanvasElement} canvas */
+function coloursNow(canvas) {
     const probes = COLOURS.map(it => { const probe = made('span'); probe.style.color = `var(--${it})`; return probe; }), box = made('span', {}, ...probes);
-    $('blocks').after(box);
+    canvas.after(box);
     const colours = Object.fromEntries(COLOURS.map((it, k) => [it, getComputedStyle(probes[k]).color]));
     box.remove();
     return colours;

@@ -180,6 +180,16 @@ export class Files {
         await this.open(own.includes(this.name) ? this.name : own[0] ?? all[0] ?? '');
     }
 
+    // A file has another length now, and is of another kind maybe. Where it is open it stays so.
+    /** @param {string} file */
+    async resized(file) {
+        const { store } = this.page, image = store.files.get(file), isOpen = this.file === file;
+        if (!image) return;
+        store.note(`kind ${file}`, (await kindOf(this.page, image)).kind);
+        this.#list();
+        if (isOpen && this.file !== file) await this.open(this.volumes.find(it => fileOf(it) === file) ?? '');
+    }
+
     async begin() {
         this.#list();
         const last = this.page.store.notes.get('volume');

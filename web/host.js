@@ -45,7 +45,8 @@ export class Held {
 
 // Runs the program with these words. `files` has get, set, has and delete, as a Map has. `read(most)` gives bytes for standard input, none at its
 // end, and `write(bytes, stream)` takes what is written to stream 1 or 2. Where `promised` is given, the two may promise. `locked(file)` says whether
-// another run holds a file, and `terminal` whether standard input is one. The answer is the exit status.
+// another run holds a file, and `terminal` whether standard input is one. `before(name)` may be promised before a file is looked for. The answer is the
+// exit status.
 /** @param {WebAssembly.Module} module @param {HostFiles} files @param {string[]} words @param {Host} host @returns {Promise<number>} */
 export async function command(module, files, words, host) {
     /** @type {any} */
@@ -54,7 +55,7 @@ export async function command(module, files, words, host) {
     const memory = (at, count) => new Uint8Array(exports.memory.buffer, Number(at), Number(count));
     const calls = imports(memory, files, words, host);
     if (host.promised)
-        for (const name of ['read', 'write'])
+        for (const name of ['read', 'write', 'statx'])
             calls[name] = /** @type {any} */ (new WebAssembly.Suspending(calls[name]));
     exports = (await WebAssembly.instantiate(module, { env: calls })).exports;
     return (host.promised ? WebAssembly.promising(exports.main) : exports.main)(0, 0n);
@@ -159,10 +160,14 @@ function imports(memory, files, words, host) {
             return 0;
         },
         statx(folder, at, flags, mask, to) {
-            const name = path(at), file = name === '' ? open.get(folder)?.file : files.get(name);
-            if (!file) return fail(ENOENT);
-            put_stat(memory(to, 256), file);
-            return 0;
+            const name = path(at), soon = host.before?.(name);
+            const look = () => {
+                const file = name === '' ? open.get(folder)?.file : files.get(name);
+                if (!file) return fail(ENOENT);
+                put_stat(memory(to, 256), file);
+                return 0;
+            };
+            return soon ? soon.then(look) : look();
         },
         realpath(at, to) {
             const name = path(at);

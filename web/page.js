@@ -7,6 +7,7 @@ import { Files } from './files.js';
 import { Source } from './source.js';
 import { Machine } from './machine.js';
 import { Teletype } from './teletype.js';
+import { Boot } from './boot.js';
 import { Script } from './script.js';
 import { KINDS } from './owner.js';
 import { Unkept } from './unkept.js';
@@ -118,6 +119,7 @@ async function begin() {
     page.files = new Files(page);
     page.machine = new Machine(page);
     page.teletype = new Teletype(page);
+    page.boot = new Boot(page);
     page.source = new Source(page);
     page.script = new Script(page);
     page.unkept = new Unkept(page);

@@ -144,7 +144,8 @@ export class Programs extends EventTarget {
 
 // One run. `heard` and `said` take what it writes to standard output and to standard error. `ended` takes its status, null where it was stopped or
 // has failed, and why it failed, null where it hasn't. `room` is how many bytes it may be ahead of what `show` was given, none for no limit.
-// `patience` is after how many milliseconds a read gives nothing. `again` has the reads of a run that this one follows, and `read` takes each further
+// `patience` is after how many milliseconds a read gives nothing. `holds` are the files that it holds, else those of a `run` that changes them. `ends`
+// is the name of a file by which it is asked for its end. `again` has the reads of a run that this one follows, and `read` takes each further
 // one that gives bytes, after how many that gave none.
 export class Run {
     /** @type {Uint8Array[]} */
@@ -166,13 +167,14 @@ export class Run {
         if (!promises && canLive && how.input === null) this.#channel = new SharedArrayBuffer(16 + (1 << 16));
         const { files } = programs.store;
         const own = words.filter(it => files.has(it));
-        this.holds = words[0] === 'run' && !words.includes('--look') && how.input === null ? own : [];
+        this.holds = how.holds ?? (words[0] === 'run' && !words.includes('--look') && how.input === null ? own : []);
         const locked = programs.locked(words);
         this.holds = this.holds.filter(it => !locked.includes(it));
         this.holds.forEach(it => programs.held.add(it));
         this.worker.postMessage({
             begin: true, module: programs.module, words, files: own.map(it => [it, files.get(it)]), input: how.input, locked,
             terminal: how.terminal ?? false, patience: how.patience ?? 0, room: how.room ?? WAITING, channel: this.#channel, promises, again: how.again ?? [],
+            ends: how.ends ?? null,
         });
         this.isPaced = how.room !== undefined;
     }
@@ -228,6 +230,15 @@ export class Run {
     }
 
     stop() { this.#end(null); }
+
+    // Asks it for its end, before which it does what it does at each.
+    finish() {
+        if (!this.isLive) return;
+        if (!this.#channel) return this.worker.postMessage({ finish: true });
+        const state = new Int32Array(this.#channel, 0, 4);
+        Atomics.store(state, 3, 1);
+        Atomics.notify(state, 2);
+    }
 
     // Where the worker waits in a call, the next bytes are laid into the memory that both have.
     #give() {

@@ -8,6 +8,8 @@ import { joined } from './program.js';
 export class Reads {
     /** @type {Past} */
     past = nothing();
+    // Whether a run goes on by them: a boot doesn't.
+    isKept = false;
 
     /** @param {import('./store.js').Store} store */
     constructor(store) { this.store = store; }
@@ -17,6 +19,7 @@ export class Reads {
     begin(words) {
         const { files } = this.store;
         this.past = nothing();
+        this.isKept = true;
         this.store.note('tty-run', { words, files: words.flatMap(it => { const bytes = files.get(it); return bytes ? [[it, bytes]] : []; }) });
         this.keep();
     }
@@ -26,6 +29,7 @@ export class Reads {
         const { notes } = this.store, given = /** @type {Given | undefined} */ (notes.get('tty-run'));
         if (!given) return null;
         this.past = notes.get('tty-reads') ?? nothing();
+        this.isKept = true;
         const files = new Map(given.files.map(([name, bytes], k) => [name, { path: `.again-${k}`, bytes }]));
         for (const { path, bytes } of files.values()) this.store.put(path, bytes);
         return given.words.map(it => files.get(it)?.path ?? it);
@@ -34,16 +38,21 @@ export class Reads {
     // The reads that a run is given again: those with a key, and so many without one after them.
     get again() { return [...this.past.reads, /** @type {[number, Uint8Array]} */ ([this.past.quiet, new Uint8Array(0)])]; }
 
-    end() { for (const it of ['tty-run', 'tty-reads']) this.store.forget(it); }
+    end() {
+        this.past = nothing();
+        this.isKept = false;
+        for (const it of ['tty-run', 'tty-reads']) this.store.forget(it);
+    }
 
     // Takes keys that were struck.
     /** @param {Uint8Array} keys */
-    strike(keys) { this.past.unread = joined([this.past.unread, keys]); }
+    strike(keys) { if (this.isKept) this.past.unread = joined([this.past.unread, keys]); }
 
     // Takes a read that found keys, after so many that found none.
     /** @param {number} quiet @param {Uint8Array} keys */
     read(quiet, keys) {
         const { past } = this;
+        if (!this.isKept) return;
         past.reads.push([quiet, keys]);
         [past.quiet, past.unread] = [0, past.unread.slice(keys.length)];
     }
@@ -52,7 +61,7 @@ export class Reads {
     /** @param {number} reads @param {number} quiet */
     see(reads, quiet) { if (reads === this.past.reads.length) this.past.quiet = Math.max(this.past.quiet, quiet); }
 
-    keep() { this.store.note('tty-reads', this.past); }
+    keep() { if (this.isKept) this.store.note('tty-reads', this.past); }
 }
 
 /** @returns {Past} */

@@ -1,4 +1,5 @@
-// The shelf: programs and a disk of the project's own, each one click from running, or one link: `#run=guess`. A link `#source=..` has a text.
+// The shelf: programs, a disk with them, and one that boots, of the project's own. Each is one click from running, or one link: `#run=guess`. A link
+// `#source=..` has a text.
 import { $, tell } from './dom.js';
 import { ask } from './ask.js';
 import { canLive, joined } from './program.js';
@@ -7,6 +8,9 @@ import { canLive, joined } from './program.js';
 const TEXTS = ['hello', 'guess', 'sort', 'lights'];
 // What else runs at one click, or by a link.
 const MORE = ['guess8'];
+// The disk that boots: its name, its texts in examples/, and the texts of each of its tapes, as examples/disk/make.sh makes it.
+const SYSTEM = 'SHED', PARTS = ['disk/read.me', 'disk/boot.pa', 'disk/disk.pa', 'disk/shed.pa', 'disk/back.pa', 'guess8.pa', 'hello.pa'];
+const TAPES = [['BOOT.BN', 'boot.pa', 'disk.pa', '--pal8'], ['SHED.BN', 'shed.pa', 'disk.pa', '--pal8'], ['GUESS8.BN', 'back.pa', 'guess8.pa', '--pal8'], ['HELLO.BN', 'hello.pa']];
 // What is worked at the front panel; the others run at the Teletype.
 const AT_PANEL = ['guess', 'sort', 'lights'];
 // Of how many texts a link may be, and of how many bytes these, before it is asked for, and how many bytes the program reads.
@@ -89,9 +93,10 @@ export class Shelf {
     /** @param {string} name */
     async #take(name) {
         if (name === 'disk') return this.#disk();
-        const all = [...TEXTS, ...MORE, 'disk'];
+        if (name === 'shed' && canLive) return this.#boot();
+        const all = [...TEXTS, ...MORE, 'shed', 'disk'];
         if (!all.includes(name)) return this.page.say(`There is no program ${plainly(name)} here. A link may run ${all.slice(0, -1).join(', ')} or ${all.at(-1)}.`, true);
-        if (!canLive && (name === 'sort' || name === 'lights')) return this.page.say(`This browser can't run ${name}: it needs a Machine that waits for its keys.`, true);
+        if (!canLive && ['sort', 'lights', 'shed'].includes(name)) return this.page.say(`This browser can't run ${name}: it needs a Machine that waits for its keys.`, true);
         const { source, machine, teletype, tabs } = this.page;
         const isAtPanel = canLive && AT_PANEL.includes(name), { owner } = isAtPanel ? machine : teletype;
         if (!await owner.take() || (!isAtPanel && !await teletype.mayBegin()) || !await source.takeExample(`${name}.pa`) || !await source.assemble()) return;
@@ -129,6 +134,39 @@ export class Shelf {
         store.gave(made);
         if (made) await files.add('SHELF', made, files.created);
         this.page.tabs.show('files');
+    }
+
+    // Boots the disk that has a system, as the page has it.
+    async #boot() {
+        const { boot, files } = this.page;
+        if (files.images.includes(SYSTEM) || await this.#makeSystem()) await boot.begin([{ number: 0, name: SYSTEM, isLocked: false, isLook: false }]);
+    }
+
+    // Makes that disk of its texts. Whether it is there.
+    async #makeSystem() {
+        const { files, store, say } = this.page, image = await files.blank('', 'disk'), answers = await Promise.all(PARTS.map(it => fetch(`examples/${it}`)));
+        if (!image || answers.some(it => !it.ok)) return void say('A part of the disk is missing.', true);
+        const texts = PARTS.map(it => `.shed/${it.replace('disk/', '')}`);
+        store.put('.shed', image);
+        for (const [k, it] of texts.entries()) store.put(it, new Uint8Array(await answers[k].arrayBuffer()));
+        await this.#fillSystem(texts);
+        const made = store.files.get('.shed');
+        for (const it of [...store.files.keys()].filter(it => it.startsWith('.shed'))) store.remove(it);
+        store.gave(made);
+        if (made) await files.add(SYSTEM, made, files.created, 'disk');
+        return files.images.includes(SYSTEM);
+    }
+
+    // Puts the texts on it, and their tapes. The first of these, run on an 8/E, writes the sector that boots.
+    /** @param {string[]} texts */
+    async #fillSystem(texts) {
+        const { programs, store } = this.page, disk = ['.shed', '--volume', '1'];
+        await programs.ask(['put', ...disk, ...texts, '--text']);
+        for (const [name, ...words] of TAPES) {
+            await programs.ask(['assemble', ...words.map(it => it.startsWith('-') ? it : `.shed/${it}`), '--output', '.shed.bn']);
+            await programs.ask(['put', ...disk, '-', '--as', name], store.files.get('.shed.bn') ?? '');
+        }
+        await programs.ask(['profile', ...disk, TAPES[0][0], '--start', '200', '--cpu', '8e', '--rk0', '.shed']);
     }
 
     // Copies an address that opens the text anywhere.

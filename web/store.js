@@ -5,7 +5,7 @@ const SLOTS = /** @type {const} */ (['files', 'notes']), OWN = 'geivottu ';
 // What this tab keeps of what it was writing as it was left.
 const LATE = 'geivottu-late';
 /** @type {[RegExp, string][]} */
-const OWNERS = [[/^(text|source-name|tape)$|^(text|further|dialect|form|options|from) /, 'text'], [/^(lines|script-saving|strict)$/, 'script'], [/^(paper|reader|tty-(going|run|reads|tape|own))$/, 'teletype'],
+const OWNERS = [[/^(text|source-name|tape)$|^(text|further|dialect|form|options|from) /, 'text'], [/^(lines|script-saving|strict)$/, 'script'], [/^(paper|reader|tty-(going|run|reads|tape|own|boot))$/, 'teletype'],
     [/^(machine|printed|access|steps|going|loaded|address|switches|fields|breaks|listing|names|console|keys)$/, 'machine']];
 
 // The claim that stands for a note, null for none.

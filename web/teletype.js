@@ -1,4 +1,4 @@
-// The Teletype pane: `teletype --live`, whose keys are struck at the paper, in a line, or by the tape reader.
+// The Teletype pane: `teletype --live`, whose keys are struck at the paper, in a line, or by the tape reader. It is the console of a disk that boots, too.
 import { $, ids, keepInput, made, tell } from './dom.js';
 import { ask } from './ask.js';
 import { Owner } from './owner.js';
@@ -9,6 +9,9 @@ import { got, isNamedCore, placeOf, tapeIn, tapeOf } from './tapes.js';
 import { titleOf, wordsOf } from './volumes.js';
 import { endOf } from './words.js';
 
+// The file by which the program is asked for its end.
+const ENDS = '.ends';
+
 export class Teletype {
     /** @param {Page} page */
     constructor(page) {
@@ -16,6 +19,12 @@ export class Teletype {
         /** @type {import('./program.js').Run | null} */
         this.run = null;
         this.isBegun = false;
+        // the disk that boots, and whether it was asked for its end
+        /** @type {Booted | null} */
+        this.booted = null;
+        this.isEnding = false;
+        this.over = Promise.resolve();
+        this.ends = () => {};
         /** @type {string | null} */
         this.own = page.store.notes.get('tty-own')?.name ?? null;
         if (this.own) page.store.put('.tape.bin', page.store.notes.get('tty-own').tape);
@@ -45,12 +54,22 @@ export class Teletype {
     }
 
     // Closes what works it where another tab has it. A program that ran when the page was left goes on, and one that another tab takes does so there.
+    // A disk that booted is at its end then.
     /** @param {boolean} follows */
     #close(follows) {
         $('reader').readOnly = follows;
         if (follows) this.stop();
         else if (canLive && this.page.store.notes.get('tty-going')) this.#goOn();
+        else this.#tellLast();
         this.#buttons();
+    }
+
+    // Says of a disk that booted here, or in the tab before, that it has ended, as no one has stopped it.
+    #tellLast() {
+        const { store } = this.page, title = store.notes.get('tty-boot');
+        if (!title || this.isBegun) return;
+        store.forget('tty-boot');
+        tell('tty-status', `${title} booted here, which ended as its page was left. It has what was saved by then.`, true);
     }
 
     // So many further characters are on the paper.
@@ -80,6 +99,8 @@ export class Teletype {
     /** @param {string[]} words @param {number} [printed] */
     async #begin(words, printed = 0) {
         let said = '', left = printed;
+        const { booted } = this;
+        this.over = new Promise(go => { this.ends = () => go(undefined); });
         /** @type {How} */
         const how = {
             heard: (bytes, reads, quiet) => {
@@ -92,11 +113,12 @@ export class Teletype {
             said: bytes => { said += textOf(bytes); },
             ended: status => this.#ended(status, said),
             read: (quiet, keys) => this.reads.read(quiet, keys),
-            room: 4096, patience: 16, again: this.reads.again,
+            room: 4096, patience: 16, again: this.reads.again, ...(booted ? { holds: booted.holds, ends: ENDS } : {}),
         };
-        tell('tty-status', 'running');
+        tell('tty-status', booted ? `${booted.title} is booted. ${booted.told}` : 'running');
         this.run = await this.page.programs.begin(words, how);
-        this.page.store.note('tty-going', true);
+        if (booted) this.page.store.note('tty-boot', booted.title);
+        else this.page.store.note('tty-going', true);
         this.#buttons();
     }
 
@@ -170,7 +192,9 @@ export class Teletype {
     // Whether another program may run: where one does the user is asked, and it is stopped.
     async mayBegin() {
         if (!this.isBegun) return true;
-        if (await ask('A program runs at the Teletype.', ['', 'Leave it'], ['stop', 'Stop it']) === 'stop') this.stop();
+        if (await ask('A program runs at the Teletype.', ['', 'Leave it'], ['stop', 'Stop it']) !== 'stop') return false;
+        this.stop();
+        if (this.run) await this.over;
         return !this.isBegun;
     }
 
@@ -188,6 +212,16 @@ export class Teletype {
         $('paper').focus();
     }
 
+    // Boots a disk, whose console is here. `words` are the program's, which gets capitals where they alone are wanted.
+    /** @param {string[]} words @param {Booted} booted */
+    async boot(words, booted) {
+        this.isBegun = true;
+        this.booted = booted;
+        this.#buttons();
+        await this.#begin([...words, ...($('capitals').checked ? ['--capitals'] : []), '--live', '--ends-with', ENDS]);
+        $('paper').focus();
+    }
+
     // Where nothing can wait, the keys are what the tape reader holds.
     /** @param {string[]} words */
     async #whole(words) {
@@ -199,24 +233,33 @@ export class Teletype {
 
     /** @param {number | null} status @param {string} said */
     #ended(status, said) {
-        this.run = null;
-        this.isBegun = false;
+        const { booted, isEnding } = this;
+        this.run = this.booted = null;
+        this.isBegun = this.isEnding = false;
         this.page.store.note('tty-going', false);
+        this.page.store.forget('tty-boot');
         this.reads.end();
-        tell('tty-status', said || endOf(status), status !== 0 && status !== null);
+        const isAsked = isEnding && /^LIMIT /m.test(said), words = booted ? `${isAsked ? 'It was stopped. ' : ''}${booted.ended()}\n` : '';
+        tell('tty-status', words + (said || endOf(status)), status !== 0 && status !== null && !isAsked);
         this.#buttons();
+        this.ends();
     }
 
+    // Stops what runs. A disk that boots is saved by its program before, which it is not asked for a second time.
     stop() {
         if (!this.run) return;
         this.paper.drop();
-        this.run.stop();
+        if (!this.booted || this.isEnding) return this.run.stop();
+        this.isEnding = true;
+        tell('tty-status', 'It is asked for its end.');
+        this.run.finish();
     }
 
     #buttons() {
         $('tty-run').disabled = this.isBegun || this.owner?.follows !== false;
         $('tear').disabled = this.owner?.follows !== false;
         $('tty-stop').disabled = this.run === null;
+        $('capitals').disabled = this.booted !== null;
     }
 
     // Strikes the keys of a text, in the order in which they were typed.

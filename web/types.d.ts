@@ -24,8 +24,10 @@ interface Claim { has: boolean; leave: () => void; known: Promise<void> }
 interface How {
     heard?: (bytes: Uint8Array, reads: number, quiet: number) => void; said?: (bytes: Uint8Array) => void; ended?: (status: number | null, failed: string | null) => void;
     input?: Uint8Array | null; terminal?: boolean; room?: number; patience?: number;
-    again?: [number, Uint8Array][]; read?: (quiet: number, bytes: Uint8Array) => void;
+    again?: [number, Uint8Array][]; read?: (quiet: number, bytes: Uint8Array) => void; holds?: string[]; ends?: string;
 }
+// A disk that boots: its name, the files that its program holds, how it is worked, in words, and what is said first of how it ended.
+interface Booted { title: string; holds: string[]; told: string; ended: () => string }
 interface Answer { status: number | null; out: Uint8Array; said: string }
 
 // What the keys of the panel do.
@@ -39,7 +41,7 @@ interface Page {
     tell: (text: string) => void; say: (text: string, isBad?: boolean) => void; tabs: import('./page.js').Tabs;
     files: import('./files.js').Files; machine: import('./machine.js').Machine; teletype: import('./teletype.js').Teletype;
     source: import('./source.js').Source; script: import('./script.js').Script; texts: import('./texts.js').Texts; unkept: import('./unkept.js').Unkept;
-    shelf: import('./shelf.js').Shelf; sound: import('./sound.js').Sound;
+    shelf: import('./shelf.js').Shelf; boot: import('./boot.js').Boot; sound: import('./sound.js').Sound;
 }
 declare var geivottu: Page;
 

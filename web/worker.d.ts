@@ -12,13 +12,13 @@ interface HostFiles {
 // Its streams, and what else it may ask.
 interface Host {
     read(most: number): Soon<Uint8Array>; write(bytes: Uint8Array, stream: number): Soon<void>; locked?(name: string): boolean;
-    terminal?: boolean; promised?: boolean;
+    terminal?: boolean; promised?: boolean; before?(name: string): Promise<unknown> | undefined;
 }
 
 // What begins a run in a worker.
 interface Begin {
     begin: true; module: WebAssembly.Module; words: string[]; files: [string, Uint8Array][]; input: Uint8Array | null; locked: string[]; terminal: boolean;
-    patience: number; room: number; channel: SharedArrayBuffer | null; promises: boolean; again: [number, Uint8Array][];
+    patience: number; room: number; channel: SharedArrayBuffer | null; promises: boolean; again: [number, Uint8Array][]; ends: string | null;
 }
 
 // The program's calls of its host.
@@ -28,7 +28,7 @@ interface Calls {
     rattle_set_errno(why: number): void; isatty(number: number): number; open(at: bigint, flags: number): number; close(number: number): number;
     dup(number: number): number; fcntl(number: number, what: number, least: bigint): number; read(number: number, at: bigint, most: bigint): Soon<bigint>;
     write(number: number, at: bigint, count: bigint): Soon<bigint>; lseek(number: number, by: bigint, from: number): bigint;
-    ftruncate(number: number, size: bigint): number; futimens(number: number, at: bigint): number; statx(folder: number, at: bigint, flags: number, mask: number, to: bigint): number;
+    ftruncate(number: number, size: bigint): number; futimens(number: number, at: bigint): number; statx(folder: number, at: bigint, flags: number, mask: number, to: bigint): Soon<number>;
     realpath(at: bigint, to: bigint): bigint; readlink(): bigint; unlink(at: bigint): number; link(from: bigint, to: bigint): number;
     rename(from: bigint, to: bigint): number; mkdir(at: bigint): number; clock_gettime(): number; flock(number: number): number; fchmod(): number;
     getentropy(at: bigint, count: number | bigint): number; rattle_open_dir_at(): number; getdents64(): bigint;

@@ -1,5 +1,5 @@
-// A run of the program, apart from the page, which never waits for it. A message begins it. Those after it are its keys or lines, and say what of its
-// output was shown.
+// A run of the program, apart from the page, which never waits for it. A message begins it. Those after it are its keys or lines, say what of its
+// output was shown, and ask it for its end.
 import { command, Held } from './host.js';
 
 const FAULT = 'pdp8: a check failed: this is a fault of pdp8 itself; please report it, with the command and its files';
@@ -14,12 +14,18 @@ let wanted = false, promises = false;
 /** @type {[number, Uint8Array][]} */
 let again = [];
 let reads = 0, quiet = 0;
+// The file that asks a run for its end once it is there, whether it is to be, and when messages were last let in before it was looked for.
+/** @type {string | null} */
+let ends = null;
+let isEnding = false, letIn = 0;
+const PAUSE = 50;
 
 onmessage = ({ data }) => {
     if (data.begin) return begin(data);
     if (data.bytes) parts.push(data.bytes);
     if (data.end) ended = true;
     if (data.shown) shown = data.shown;
+    if (data.finish) isEnding = true;
     wake();
 };
 
@@ -28,6 +34,10 @@ onmessage = ({ data }) => {
 class Files extends Map {
     /** @type {Map<string, Held>} */
     old = new Map();
+
+    // The file that asks for the run's end is none of the page's.
+    /** @param {string} name @returns {Held | undefined} */
+    get(name) { return name === ends && mustEnd() ? new Held() : super.get(name); }
 
     /** @param {Held} file */
     changed(file) { for (const [name, it] of this) if (it === file) this.old.delete(name); }
@@ -53,6 +63,7 @@ class Files extends Map {
 async function begin({ module, words, files, input, locked, terminal, patience, room, channel, ...how }) {
     promises = how.promises;
     [again, reads, quiet] = [how.again, 0, 0];
+    [ends, isEnding] = [how.ends, false];
     const own = new Files();
     for (const [name, bytes] of files) own.set(name, new Held(bytes));
     own.old = new Map(own);
@@ -77,11 +88,11 @@ async function begin({ module, words, files, input, locked, terminal, patience, 
         own.tell();
         sent += bytes.length;
         postMessage({ stream, bytes, reads, quiet });
-        if (!room || sent - shown <= room) return;
+        if (!room || sent - shown <= room || mustEnd()) return;
         if (shared) printed(shared, room);
         else if (promises) return held(room);
     };
-    const host = { read, write, locked: (/** @type {string} */ name) => locked.includes(name), terminal, promised: promises };
+    const host = { read, write, before, locked: (/** @type {string} */ name) => locked.includes(name), terminal, promised: promises };
     let status = null, failed = null;
     try {
         status = await command(module, own, ['pdp8', ...words], host);
@@ -90,6 +101,17 @@ async function begin({ module, words, files, input, locked, terminal, patience, 
     }
     own.tell();
     postMessage({ status, failed });
+}
+
+// Whether the run is asked for its end.
+function mustEnd() { return isEnding || (shared !== null && Atomics.load(shared.state, 3) === 1); }
+
+// Lets messages in before the file is looked for that asks for the end, from time to time: a program that loops reads none.
+/** @param {string} name */
+function before(name) {
+    if (name !== ends || !promises || performance.now() - letIn < PAUSE) return undefined;
+    letIn = performance.now();
+    return new Promise(go => setTimeout(go));
 }
 
 // The next of the reads that are given again, null where there is none.
@@ -137,10 +159,10 @@ async function given(most, patience) {
     return parts.length ? take(most) : new Uint8Array(0);
 }
 
-// Waits until no more than so many bytes are not shown yet.
+// Waits until no more than so many bytes are not shown yet, or the run is to end.
 /** @param {number} room */
 async function held(room) {
-    await new Promise(go => { wake = () => { if (sent - shown <= room) go(true); }; wake(); });
+    await new Promise(go => { wake = () => { if (sent - shown <= room || isEnding) go(true); }; wake(); });
     wake = () => {};
 }
 
@@ -161,7 +183,7 @@ function taken(shared, most, patience) {
 function printed(shared, room) {
     for (;;) {
         const now = Atomics.load(shared.state, 2);
-        if (sent - now <= room) return;
+        if (sent - now <= room || mustEnd()) return;
         Atomics.wait(shared.state, 2, now);
     }
 }

@@ -371,7 +371,7 @@ def a_folder_that_is_not_synced_is_told(room: Room) -> None:
 TAPE = bytes([0o200, 0o102, 0, 0, 1, 1, 3, 0o200])
 WRITERS = {
     ("tape",): TAPE, ("source",): TAPE, ("rim",): b"\x80\x42\0\0\1\x80", ("assemble", "-"): b"1\n$",
-    ("teletype", "T"): b"", ("trace", "T"): b"", ("profile", "T"): b"", ("run", "V"): b"DIRECT\n", ("list", "V"): b"", ("list", "V", "--long"): b"",
+    ("teletype", "T"): b"", ("trace", "T"): b"", ("profile", "T"): b"", ("boot", "D", "--look"): b"AH", ("run", "V"): b"DIRECT\n", ("list", "V"): b"", ("list", "V", "--long"): b"",
     ("check", "V"): b"", ("check", "V", "W"): b"", ("check", "V", "--all"): b"", ("get", "V", "A"): b"", ("get", "V", "--blocks", "1", "1"): b"",
     ("get", "V", "A", "--into", "F", "--force"): b"", ("put", "V", "-", "--as", "B"): b"B", ("rename", "V", "A", "C"): b"", ("copy", "V", "A", "W"): b"",
     ("delete", "V", "A"): b"", ("squeeze", "V"): b"", ("create", "N", "8"): b"", ("list", "none"): b"", ("--help",): b"", ("--version",): b"",
@@ -387,6 +387,8 @@ def output_that_takes_no_more_is_told_by_all_commands_alike(room: Room) -> None:
     found = {}
     for words, given in WRITERS.items():
         for output, wanted in ((full, (1, b"? 9 WRITER\n")), (reader_gone[1], (141, b""))):
+            with open(f"{room.folder}/D", "wb") as disk:
+                disk.write(DISK.ljust(512, b"\0"))
             room.sh("rm -f N; ./pdp8 create V 20; echo A | ./pdp8 put V - --as A; ./pdp8 create W 20; ./pdp8 assemble --output T - <<.\nCLA;TAD C;TLS;JMP .-1;C, 301\n$\n.\n")
             run = subprocess.run(["./pdp8", *words], cwd=room.folder, input=given, stdout=output, stderr=subprocess.PIPE, timeout=patience(20))
             status, said = wanted
@@ -429,6 +431,31 @@ def a_file_that_is_not_written_has_its_reason_in_a_note(room: Room) -> None:
             holds((call, error, said), (call, error, (1, noted("W", why, AS_IT_WAS))))
     holds(room.sh("./pdp8 list V"), "A 1\nFREE 12\n")
     holds(room.names(), ["V"])
+
+
+# A disk of one sector: its program prints a key and writes the sector 1, and H halts.
+COUNTED = "6031 5031 6036 6046 1060 7650 7402 2061 7000 1062 6746 6744 1063 6743 6741 5047 5031 0 0 0 0 0 0 7470 0 4100 1"
+DISK = bytes(50) + b"".join(int(word, 8).to_bytes(2, "little") for word in COUNTED.split())
+HALTED = "HALT 00040 AC 0000 L 1 MQ 0000\n"
+
+
+@case
+def a_disk_that_is_not_saved_has_its_reason_in_a_note(room: Room) -> None:
+    for name in "DE":
+        with open(f"{room.folder}/{name}", "wb") as disk:
+            disk.write(DISK.ljust(512, b"\0"))
+    for error, why in REASONS.items():
+        for call in ("fsync", "rename"):
+            status, said = room.pdp8("boot", "D", "--rk1", "E", call=call, error=error, given="AH")
+            holds((call, error, status, said.replace("AH", "", 1)), (call, error, 1, f"note: D: {why}\n{HALTED}{AS_IT_WAS}"))
+    for name in "DE":
+        with open(f"{room.folder}/{name}", "rb") as disk:
+            holds(disk.read(), DISK.ljust(512, b"\0"))
+    holds(room.names(), ["D", "E"])
+    for error, why in {errno.EROFS: "read-only file system", errno.EACCES: "permission denied", errno.EPERM: "permission denied"}.items():
+        holds(room.pdp8("boot", "D", call="open D", error=error, given="AH"), (1, noted("D", why, AS_IT_WAS)))
+        status, said = room.pdp8("boot", "D", "--look", call="open D", number=2, error=error, given="AH")
+        holds((status, said.replace("AH", "", 1)), (0, HALTED))
 
 
 @case

@@ -55,6 +55,7 @@ tape @.j | tape @.n | tape @.t | tape --volume 1 @.v ! | rim @.j | rim @.n | rim
 run @.v | run @.n | run @.j | run @.v @.t | run --strict @.v @.pa | run @.v @.n | run @.v @.l
 create @.v ! | create @.n/x 20 | create @.v 20 --new | create ! 7 | create @.d 20
 teletype @.n | teletype @.j | trace @.n | trace @.j | profile @.n | profile @.t
+boot @.n | boot @.j | boot @.d | boot @.rk --rk1 @.n | boot @.rk --lock ! | boot @.rk --disk-time !
 ! | --! | list --! | list @.v -! | check | get @.v | get @.v A --! | put @.v - - ! | list @.v --volume 1 --dectape ! | --help ! | ! --help
 """
 # Commands with tabs in their lines: between columns, and as a line of a source has them.

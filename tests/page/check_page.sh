@@ -14,7 +14,7 @@ for word; do
     *) echo "check_page: usage: tests/page/check_page.sh [--quick]" >&2; exit 2 ;;
     esac
 done
-which=--proved program=crates/pdp8/out/pdp8 texts=() scripts=1000 sequences=50 browsed='kept tabs drops hand closed undone losses archives shelf panel disks whole offers'
+which=--proved program=crates/pdp8/out/pdp8 texts=() scripts=1000 sequences=50 browsed='kept tabs drops hand closed undone losses archives shelf panel disks boots whole offers'
 if [[ " $* " == *" --quick "* ]]; then
     which=--unproved program=target/unproved/pdp8/pdp8 texts=(README.md docs/*.md docs/*/*.md) scripts=100 sequences='' browsed=losses
 fi
@@ -73,8 +73,8 @@ count() {
 }
 
 # the module that is built with checks is larger
-limit=3000
-[ "$which" = --proved ] || limit=3200
+limit=3200
+[ "$which" = --proved ] || limit=3400
 size=$(du -ks --apparent-size "$folder" | cut -f 1)
 if ((size < limit)); then passed=$((passed + 1)); else failed=$((failed + 1)); echo "page: the folder has $size kB"; fi
 served() { node --experimental-wasm-memory64 --no-warnings tests/page/server.mjs "$folder/pdp8.wasm" "$@"; }

@@ -193,7 +193,7 @@ await run('drops', {
         await link(20000000);
         await isTold(page, 'files-status', 'more than 16777216 bytes');
         same('', await text(page), 'the text');
-        for (const [hash, words] of [['run=nonsense', 'There is no program nonsense here. A link may run hello, guess, sort, lights, guess8 or disk.'], ['nonsense', 'There is no pane nonsense.']]) {
+        for (const [hash, words] of [['run=nonsense', 'There is no program nonsense here. A link may run hello, guess, sort, lights, guess8, shed or disk.'], ['nonsense', 'There is no pane nonsense.']]) {
             await page.go(`${url}?${hash.slice(0, 3)}#${hash}`);
             await isTold(page, 'files-status', words);
         }

@@ -68,13 +68,14 @@ await run('hand', {
         await assemble(page, `${'/ A LINE\n'.repeat(200)}${COUNT}`);
         await page.click('#to-core');
         await isTold(page, 'machine-status', 'words are in core');
+        await page.until(`!!document.querySelector('#code .at')`);
         await page.look(`document.getElementById('key-step').scrollIntoView({ block: 'end' })`);
         const before = await page.look('scrollY');
         await clickAt(page, 'key-step', 6);
-        same(6, await page.look('geivottu.machine.steps'), 'the steps');
-        same(before, await page.look('scrollY'), 'how far the window is scrolled');
         await page.until(`(() => { const box = document.getElementById('code').getBoundingClientRect(), line = document.querySelector('#code .at').getBoundingClientRect();
             return line.top >= box.top - 1 && line.bottom <= box.bottom + 1; })()`);
+        same(6, await page.look('geivottu.machine.steps'), 'the steps');
+        same(before, await page.look('scrollY'), 'how far the window is scrolled');
     },
     'faults, help and what is said have their places': async (page, url) => {
         await page.go(url);

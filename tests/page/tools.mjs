@@ -9,6 +9,11 @@ const [program, folder] = process.argv.slice(2, 4).map(it => resolve(it));
 const only = process.argv.slice(4);
 let work = '', noted = '';
 
+// Programs of a disk that boots, from cell 00031 on. They print each key, count it in 00061, and write the cells 00000 to 00177 to the sector that is
+// given in 00063. H halts. The second one goes on for ever after a first key.
+export const COUNTS = [0o6031, 0o5031, 0o6036, 0o6046, 0o1060, 0o7650, 0o7402, 0o2061, 0o7000, 0o1062, 0o6746, 0o6744, 0o1063, 0o6743, 0o6741, 0o5047, 0o5031, 0, 0, 0, 0, 0, 0, 0o7470, 0, 0o4100];
+export const LOOPS = [...COUNTS.slice(0, 16), 0o5051, ...COUNTS.slice(17)];
+
 /** @typedef {import('./browser.mjs').Browser} Page */
 /** @typedef {((page: Page, url: string) => Promise<unknown>) & { isAlone?: boolean }} Test */
 /** @typedef {Record<string, Test>} Tests */

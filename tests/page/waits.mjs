@@ -4,6 +4,7 @@ import { readFileSync } from 'node:fs';
 import { dirname, join } from 'node:path';
 import { fileURLToPath } from 'node:url';
 import { Browser, serve } from './browser.mjs';
+import { LOOPS } from './tools.mjs';
 
 const top = dirname(dirname(dirname(fileURLToPath(import.meta.url))));
 const folder = process.argv[3], only = process.argv.slice(4);
@@ -33,7 +34,7 @@ async function script(page) {
 }
 
 // What a page must not show where no call of the program can wait for a key.
-const SHOWN = `['#tab-machine', '#machine', '#to-core', '#to-step', '#keys', '#read', '#session', '#entry', '#tty-stop', '[data-run=sort]', '[data-run=lights]']
+const SHOWN = `['#tab-machine', '#machine', '#boot', '#to-core', '#to-step', '#keys', '#read', '#session', '#entry', '#tty-stop', '[data-run=sort]', '[data-run=lights]']
     .filter(it => document.querySelector(it).checkVisibility()).join(' ')`;
 
 const tests = {
@@ -64,6 +65,23 @@ const tests = {
             await isTold(page, 'replies', '00200 0000');
             await page.click('#session');
             await isTold(page, 'script-status', 'status 0');
+        } finally {
+            server.end();
+        }
+    },
+    'with memory that two threads have, a disk boots, and Stop saves what loops': async page => {
+        const server = await serve(folder, isolated);
+        try {
+            await begun(page, `${server.url}?wait=memory`);
+            await page.look(`(() => { const bytes = geivottu.store.files.get('DISK').slice();
+                ${JSON.stringify([...LOOPS, 20])}.forEach((word, k) => { bytes[2 * (0o31 + k)] = word & 0o377; bytes[2 * (0o31 + k) + 1] = word >> 8; }); geivottu.store.put('DISK', bytes); })()`);
+            await page.click('#tab-machine');
+            await page.click('#boot');
+            await page.until(`document.activeElement.id === 'paper'`);
+            await page.keys('A');
+            await isTold(page, 'paper', 'A');
+            await page.click('#tty-stop');
+            await isTold(page, 'tty-status', 'It was stopped. DISK: 1 sector was changed, and is saved.');
         } finally {
             server.end();
         }

@@ -32,37 +32,38 @@ use Rattle.archive_many.proofs.GoneLemmas.{chosen-there, none-there, read-so}
 
 -- ## All or none
 
-not-to : (from to : List ℕ) (files : List VolumeFile) (fault : ArchiveFault) → IsNotCopied from to files (copying.To fault) → ⊥
-not-to from to [] fault is = is
-not-to from to (f ∷ files) fault (inl here) = cc
-not-to from to (f ∷ files) fault (inr later) = not-to from later.0.bytes.items files fault later.2
+not-to : (from to : List ℕ) (other : Option (List ℕ)) (files : List VolumeFile) (fault : ArchiveFault) → IsNotCopied from to other files (copying.To fault) → ⊥
+not-to from to other [] fault is = is
+not-to from to other (f ∷ files) fault (inl here) = cc
+not-to from to other (f ∷ files) fault (inr later) = not-to from later.0.bytes.items other files fault later.2
 
-not-older : (from to : List ℕ) (files : List VolumeFile) (file : VolumeFile) → IsNotCopied from to files (copying.Exists file) → ⊥
-not-older from to [] file is = is
-not-older from to (f ∷ files) file (inl here) = cc
-not-older from to (f ∷ files) file (inr later) = not-older from later.0.bytes.items files file later.2
+not-older : (from to : List ℕ) (other : Option (List ℕ)) (files : List VolumeFile) (file : VolumeFile) → IsNotCopied from to other files (copying.Exists file) → ⊥
+not-older from to other [] file is = is
+not-older from to other (f ∷ files) file (inl here) = cc
+not-older from to other (f ∷ files) file (inr later) = not-older from later.0.bytes.items other files file later.2
 
 -- what becomes of the files one after the other becomes of all
-pub all-or-none : (from to : List ℕ) (files : List VolumeFile) (is_forced : Bool) (result : Result (Vec ℕ) CopyAllFault) → KeepsOut is_forced to files None → CopiesEach from to files result
-    → CopiesAll from to files is_forced result
-all-or-none from to files is_forced (Ok new) keeps is = (keeps, is)
-all-or-none from to files is_forced (Err (copying.To fault)) keeps is = absurd (not-to from to files fault is)
-all-or-none from to files is_forced (Err (copying.Exists file)) keeps is = absurd (not-older from to files file is)
-all-or-none from to files is_forced (Err (copying.File file why)) keeps is = (keeps, is)
-all-or-none from to files is_forced (Err copying.Memory) keeps is = tt
+pub all-or-none : (from to : List ℕ) (other : Option (List ℕ)) (files : List VolumeFile) (is_forced : Bool) (result : Result (Vec ℕ) CopyAllFault) → KeepsOut is_forced to files None
+    → CopiesEach from to other files result → CopiesAll from to other files is_forced result
+all-or-none from to other files is_forced (Ok new) keeps is = (keeps, is)
+all-or-none from to other files is_forced (Err (copying.To fault)) keeps is = absurd (not-to from to other files fault is)
+all-or-none from to other files is_forced (Err (copying.Exists file)) keeps is = absurd (not-older from to other files file is)
+all-or-none from to other files is_forced (Err (copying.File file why)) keeps is = (keeps, is)
+all-or-none from to other files is_forced (Err copying.Memory) keeps is = tt
 
 -- a file that is copied, and then the others
-pub copied-next : (from to image : List ℕ) (file : VolumeFile) (files : List VolumeFile) (result : Result (Vec ℕ) CopyAllFault)
-    → (next : NewImage) × HasCopied from (AtBlock file.place) to None next × (image ≡ next.bytes.items) → CopiesEach from image files result → CopiesEach from to (file ∷ files) result
-copied-next from to image file files (Ok new) one is = (one.0, one.1, subst (λ (l : List ℕ). AreCopied from l files new.items) one.2 is)
-copied-next from to image file files (Err fault) one is = inr (one.0, one.1, subst (λ (l : List ℕ). IsNotCopied from l files fault) one.2 is)
+pub copied-next : (from to image : List ℕ) (other : Option (List ℕ)) (file : VolumeFile) (files : List VolumeFile) (result : Result (Vec ℕ) CopyAllFault)
+    → (next : NewImage) × HasCopied from (AtBlock file.place) to other next × (image ≡ next.bytes.items) → CopiesEach from image other files result → CopiesEach from to other (file ∷ files) result
+copied-next from to image other file files (Ok new) one is = (one.0, one.1, subst (λ (l : List ℕ). AreCopied from l other files new.items) one.2 is)
+copied-next from to image other file files (Err fault) one is = inr (one.0, one.1, subst (λ (l : List ℕ). IsNotCopied from l other files fault) one.2 is)
 
 -- a file that can't be put
-pub not-copied-next : (from to : List ℕ) (file : VolumeFile) (files : List VolumeFile) (fault : CopyAllFault) → CopiesNext from to file (Err fault) → CopiesEach from to (file ∷ files) (Err fault)
-not-copied-next from to file files (copying.To fault) is = absurd is
-not-copied-next from to file files (copying.Exists older) is = absurd is
-not-copied-next from to file files (copying.File one why) is = inl (why, is.1, ap (λ f. copying.File f why) is.0)
-not-copied-next from to file files copying.Memory is = absurd is
+pub not-copied-next : (from to : List ℕ) (other : Option (List ℕ)) (file : VolumeFile) (files : List VolumeFile) (fault : CopyAllFault) → CopiesNext from to other file (Err fault)
+    → CopiesEach from to other (file ∷ files) (Err fault)
+not-copied-next from to other file files (copying.To fault) is = absurd is
+not-copied-next from to other file files (copying.Exists older) is = absurd is
+not-copied-next from to other file files (copying.File one why) is = inl (why, is.1, ap (λ f. copying.File f why) is.0)
+not-copied-next from to other file files copying.Memory is = absurd is
 
 -- ## The law
 
@@ -90,7 +91,7 @@ at-name source number q held there is = elim (eqb_tells number q) [
   | inr p ↦ absurd (true≢false (sym is ∙ p.0))
 ]
 
-each-copied : WrittenIsReadBack → (from to new : List ℕ) (source old : List (List ℕ)) (files : List VolumeFile) → IsImageOf from source → IsImageOf to old → AreCopied from to files new → Copied source old files new
+each-copied : WrittenIsReadBack → (from to new : List ℕ) (source old : List (List ℕ)) (files : List VolumeFile) → IsImageOf from source → IsImageOf to old → AreCopied from to None files new → Copied source old files new
 each-copied law from to new source old [] has_source has_old copied = record {
   blocks = old;
   is_image = subst (λ (bytes : List ℕ). IsImageOf bytes old) (sym copied) has_old;
@@ -149,7 +150,7 @@ by-directory law sound source d words numbers q info older (Some g) read is none
     ap (λ b. if b then copy_or info (get (files_of source) q) older else older) (chosen-there sound source d words numbers q g read is none asked)
 
 pub like-are-copied : WrittenIsReadBack → FoundSo → SoundSo → (from to : List ℕ) (source old words : List (List ℕ)) (new : List ℕ) → IsOpened from source → IsOpened to old
-    → first_unfound (wishes_of (files_on source) false words []) ≡ None → AreCopied from to (found_files (wishes_of (files_on source) false words [])) new → (blocks : List (List ℕ)) × IsImageOf new blocks
+    → first_unfound (wishes_of (files_on source) false words []) ≡ None → AreCopied from to None (found_files (wishes_of (files_on source) false words [])) new → (blocks : List (List ℕ)) × IsImageOf new blocks
     × ((name : ℕ) → get (files_of blocks) name ≡ (if is_like_one words name then copy_or (info_of old) (get (files_of source) name) (get (files_of old) name) else get (files_of old) name))
 like-are-copied law found sound from to source old words new opened into none copied =
     let d = read-so (directory_of source) opened.sound in

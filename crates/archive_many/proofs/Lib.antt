@@ -7,3 +7,4 @@ pub mod VolumeLemmas
 pub mod WishLemmas
 pub mod GoneLemmas
 pub mod CopyLemmas
+pub mod AskedLemmas

@@ -1,7 +1,11 @@
--- The files of a volume that a word chooses, and the one that begins at a block (this project's profile).
-use Rattle.std.specs.Prelude.{◌≡◌, ℕ, ◌<◌, ◌==◌, true, false, if◌then◌else◌, Option, Some, None, Result, Ok, Err, List, [], ◌∷◌, length}
+-- The files of a volume that a word chooses, and the one that is asked for (this project's profile).
+use Rattle.std.specs.Prelude.{◌≡◌, ℕ, ◌<◌, ◌==◌, true, false, nat_eq, if◌then◌else◌, Option, Some, None, Result, Ok, Err, List, [], ◌∷◌, length}
 use Rattle.std.specs.Global.{Vec}
+use Rattle.os8_dir.specs.declared.file_faults.FileFault.{FileFault}
+use Rattle.os8_dir.specs.declared.file_faults.FileFault.TheVariants as fault
 use Rattle.name_spelling.specs.Patterns.{is_choice, matches}
+use Rattle.name_spelling.specs.Reading.{typed_name}
+use Rattle.archive_files.specs.Asking.{Target, OfName, AtBlock}
 use Rattle.archive_many.specs.declared.opened.VolumeFile.{VolumeFile}
 use Rattle.archive_many.specs.declared.faults.ChoiceFault.{ChoiceFault}
 use Rattle.archive_many.specs.declared.faults.ChoiceFault.TheVariants.{BadName, NotFound, Memory}
@@ -28,3 +32,22 @@ Chooses files word (Err Memory) = (is_choice word ≡ true) × (0 < length (file
 abbrev pub beginning_at : ℕ → List VolumeFile → Option VolumeFile
 beginning_at place [] = None
 beginning_at place (file ∷ files) = if file.place == place then Some file else beginning_at place files
+
+-- that of some files which has a name
+abbrev pub file_named : ℕ → List VolumeFile → Option VolumeFile
+file_named name [] = None
+file_named name (file ∷ files) = if nat_eq file.name name then Some file else file_named name files
+
+-- a file, or none is found
+abbrev pub file_or_none : Option VolumeFile → Result VolumeFile FileFault
+file_or_none None = Err fault.NotFound
+file_or_none (Some one) = Ok one
+
+abbrev pub file_if_named : Option ℕ → List VolumeFile → Result VolumeFile FileFault
+file_if_named None files = Err fault.BadName
+file_if_named (Some name) files = file_or_none (file_named name files)
+
+-- the file that is asked for
+abbrev pub file_asked : Target → List VolumeFile → Result VolumeFile FileFault
+file_asked (OfName text) files = file_if_named (typed_name text) files
+file_asked (AtBlock place) files = file_or_none (beginning_at place files)

@@ -29,25 +29,26 @@ KeepsOut is_forced to files kept = (blocks : List (List ℕ)) × IsOpened to blo
 
 -- ## One file after the other
 
--- the files of an image, each by its first block, are put into another one after the other, each with its name, its words and its information words
-abbrev pub AreCopied : List ℕ → List ℕ → List VolumeFile → List ℕ → Type 0
-AreCopied from to [] new = new ≡ to
-AreCopied from to (file ∷ files) new = (next : NewImage) × HasCopied from (AtBlock file.place) to None next × AreCopied from next.bytes.items files new
+-- The files of an image, each by its first block, are put into another one after the other. Each has its name, or else a new one, its words and its
+-- information words.
+abbrev pub AreCopied : List ℕ → List ℕ → Option (List ℕ) → List VolumeFile → List ℕ → Type 0
+AreCopied from to other [] new = new ≡ to
+AreCopied from to other (file ∷ files) new = (next : NewImage) × HasCopied from (AtBlock file.place) to other next × AreCopied from next.bytes.items other files new
 
 -- one of them can't be put after those before it
-abbrev pub IsNotCopied : List ℕ → List ℕ → List VolumeFile → CopyAllFault → Type 0
-IsNotCopied from to [] fault = ⊥
-IsNotCopied from to (file ∷ files) fault =
-    ((why : CopyFault) × CopiesFile from (AtBlock file.place) to None (Err why) × (fault ≡ File file why))
-    ⊎ ((next : NewImage) × HasCopied from (AtBlock file.place) to None next × IsNotCopied from next.bytes.items files fault)
+abbrev pub IsNotCopied : List ℕ → List ℕ → Option (List ℕ) → List VolumeFile → CopyAllFault → Type 0
+IsNotCopied from to other [] fault = ⊥
+IsNotCopied from to other (file ∷ files) fault =
+    ((why : CopyFault) × CopiesFile from (AtBlock file.place) to other (Err why) × (fault ≡ File file why))
+    ⊎ ((next : NewImage) × HasCopied from (AtBlock file.place) to other next × IsNotCopied from next.bytes.items other files fault)
 
 -- ## All or none
 
 -- The new image has all files put into it, of which none was there by its name, unless older ones may go. Or none is put, for the first of these:
 -- the image that gets them is refused, an older file, one that can't be put.
-abbrev pub CopiesAll : List ℕ → List ℕ → List VolumeFile → Bool → Result (Vec ℕ) CopyAllFault → Type 0
-CopiesAll from to files is_forced (Ok new) = KeepsOut is_forced to files None × AreCopied from to files new.items
-CopiesAll from to files is_forced (Err (To fault)) = IsUnopened to fault
-CopiesAll from to files is_forced (Err (Exists file)) = KeepsOut is_forced to files (Some file)
-CopiesAll from to files is_forced (Err (File file why)) = KeepsOut is_forced to files None × IsNotCopied from to files (File file why)
-CopiesAll from to files is_forced (Err Memory) = Unit {0}
+abbrev pub CopiesAll : List ℕ → List ℕ → Option (List ℕ) → List VolumeFile → Bool → Result (Vec ℕ) CopyAllFault → Type 0
+CopiesAll from to other files is_forced (Ok new) = KeepsOut is_forced to files None × AreCopied from to other files new.items
+CopiesAll from to other files is_forced (Err (To fault)) = IsUnopened to fault
+CopiesAll from to other files is_forced (Err (Exists file)) = KeepsOut is_forced to files (Some file)
+CopiesAll from to other files is_forced (Err (File file why)) = KeepsOut is_forced to files None × IsNotCopied from to other files (File file why)
+CopiesAll from to other files is_forced (Err Memory) = Unit {0}

@@ -1,16 +1,13 @@
 -- Files whose copies have fewer information words.
-use Rattle.std.specs.Prelude.{◌≡◌, ◌⊎◌, ◌&&◌, ℕ, Bool, true, false, not, nat_eq, ◌==◌, if◌then◌else◌, Option, None, Some, Result, Ok, Err, List, [], ◌∷◌, drop}
+use Rattle.std.specs.Prelude.{◌≡◌, ◌⊎◌, ◌&&◌, ℕ, Bool, true, false, not, nat_eq, Option, None, Some, Result, Ok, Err, List, [], ◌∷◌, drop}
 use Rattle.std.specs.Global.{Vec}
-use Rattle.name_spelling.specs.Reading.{typed_name}
 use Rattle.os8_dir.specs.Entries.{DirectoryState}
 use Rattle.os8_dir.specs.Found.{FilePlace, files_at, find}
 use Rattle.os8_dir.specs.Reading.{directory_of}
 use Rattle.os8_dir.specs.declared.faults.DirFault.{DirFault}
 use Rattle.archive_files.specs.declared.faults.ArchiveFault.{ArchiveFault}
-use Rattle.archive_files.specs.Asking.{Target, OfName, AtBlock}
 use Rattle.archive_files.specs.Opening.{IsOpened, IsUnopened}
-use Rattle.archive_many.specs.Choosing.{beginning_at}
-use Rattle.archive_many.specs.Opened.{files_on, information_on}
+use Rattle.archive_many.specs.Opened.{information_on}
 use Rattle.archive_many.specs.declared.opened.VolumeFile.{VolumeFile}
 
 -- each is 0
@@ -40,32 +37,3 @@ abbrev pub CutsFiles : List ℕ → List ℕ → List VolumeFile → Result (Vec
 CutsFiles from to files (Ok cuts) = (source target : List (List ℕ)) × IsOpened from source × IsOpened to target
     × (cuts.items ≡ cuts_of source (information_on target) files)
 CutsFiles from to files (Err fault) = IsUnopened from fault ⊎ IsUnopened to fault
-
--- ## One file
-
--- that of some files which has a name
-abbrev pub file_named : ℕ → List VolumeFile → Option VolumeFile
-file_named name [] = None
-file_named name (file ∷ files) = if nat_eq file.name name then Some file else file_named name files
-
-abbrev pub file_if_named : Option ℕ → List VolumeFile → Option VolumeFile
-file_if_named None files = None
-file_if_named (Some name) files = file_named name files
-
--- that which is asked for
-abbrev pub file_asked : Target → List VolumeFile → Option VolumeFile
-file_asked (OfName text) files = file_if_named (typed_name text) files
-file_asked (AtBlock place) files = beginning_at place files
-
--- a file, if it is cut
-abbrev pub cut_only : VolumeFile → Bool → Option VolumeFile
-cut_only file is = if is then Some file else None
-
-abbrev pub cut_among : List (List ℕ) → ℕ → Option VolumeFile → Option VolumeFile
-cut_among source count None = None
-cut_among source count (Some file) = cut_only file (is_cut source file.name count)
-
-abbrev pub CutsFile : List ℕ → Target → List ℕ → Result (Option VolumeFile) ArchiveFault → Type 0
-CutsFile from wanted to (Ok cut) = (source target : List (List ℕ)) × IsOpened from source × IsOpened to target
-    × (cut ≡ cut_among source (information_on target) (file_asked wanted (files_on source)))
-CutsFile from wanted to (Err fault) = IsUnopened from fault ⊎ IsUnopened to fault

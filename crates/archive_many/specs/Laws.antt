@@ -88,7 +88,7 @@ copy_or info (Some held) older = Some (copy_with info held)
 -- has the words of its file, and its information words as far as there is room. Where no copy has the name of an older file, that stays.
 abbrev pub LikeAreCopied : Type 0
 LikeAreCopied = (from to : List ℕ) (source old words : List (List ℕ)) (new : List ℕ) → IsOpened from source → IsOpened to old → first_unfound (wishes_of (files_on source) false words []) ≡ None
-    → AreCopied from to (found_files (wishes_of (files_on source) false words [])) new → (blocks : List (List ℕ)) × IsImageOf new blocks
+    → AreCopied from to None (found_files (wishes_of (files_on source) false words [])) new → (blocks : List (List ℕ)) × IsImageOf new blocks
     × ((name : ℕ) → get (files_of blocks) name ≡ (if is_like_one words name then copy_or (info_of old) (get (files_of source) name) (get (files_of old) name) else get (files_of old) name))
 
 -- ## Files of a volume

@@ -1,6 +1,7 @@
--- Files that words name, and not only choose as a pattern does (this project's profile).
+-- Files that words name, and not only choose as a pattern does, and the names of copies (this project's profile).
 use Rattle.std.specs.Prelude.{ℕ, ◌||◌, Bool, false, nat_eq, Option, None, Some, List, [], ◌∷◌}
 use Rattle.name_spelling.specs.Reading.{typed_name}
+use Rattle.archive_files.specs.Copying.{target}
 use Rattle.archive_many.specs.declared.opened.VolumeFile.{VolumeFile}
 
 abbrev pub is_name : Option ℕ → ℕ → Bool
@@ -22,3 +23,11 @@ place_is_among place (other ∷ others) = nat_eq other place || place_is_among p
 -- one of some words is the name of a file, or it begins at one of some blocks
 abbrev pub is_named : VolumeFile → List (List ℕ) → List ℕ → Bool
 is_named file words places = name_is_among file.name words || place_is_among file.place places
+
+abbrev pub name_or : ℕ → Option ℕ → ℕ
+name_or own None = own
+name_or own (Some name) = name
+
+-- the name that the copy of a file gets: the new one that was typed, if that is one, or else its own
+abbrev pub copy_name : Option (List ℕ) → ℕ → ℕ
+copy_name other own = name_or own (target own other)

@@ -1,8 +1,13 @@
 ghost use Rattle.std.specs.Prelude.{◌≡◌, ◌<◌, length, MatchResult};
+ghost use Rattle.archive_files.specs.Asking.{target_of};
+ghost use Rattle.archive_many.specs.Choosing as spec;
 ghost use Rattle.archive_many.specs.Choosing.{Chooses, beginning_at, files_like};
 
 use crate::{ChoiceFault, VolumeFile};
-use name_spelling::{is_choice, matches};
+use archive_files::Asked;
+use name_spelling::{is_choice, matches, typed_name};
+use os8_dir::Name;
+use os8_files::FileFault;
 use std::alloc::{AllocError, Global};
 
 /// The files that a word chooses, in their order: that of a typed name, or all that are like a pattern. A pattern is 1 to 12 capital
@@ -48,6 +53,42 @@ pub fn at_place(files: &[VolumeFile], place: usize) -> Option<VolumeFile>
     let mut rest = files;
     while let [file, others @ ..] = rest {
         if file.place == place {
+            return Some(*file);
+        }
+        rest = others;
+    }
+    None
+}
+
+/// The file of some that is asked for. Where a text is no name, or no file is there, that is the fault (this project's profile).
+pub fn file_asked(asked: &Asked, files: &[VolumeFile]) -> Result<VolumeFile, FileFault>
+    ensures { result ≡ spec.file_asked (target_of asked.now) files.now }
+{
+    match asked {
+        Asked::Name(text) => match typed_name(text.as_bytes()) {
+            None => Err(FileFault::BadName),
+            Some(name) => file_or_none(file_named(name, files)),
+        },
+        Asked::At(place) => file_or_none(at_place(files, *place)),
+    }
+}
+
+fn file_or_none(found: Option<VolumeFile>) -> Result<VolumeFile, FileFault>
+    ensures { result ≡ spec.file_or_none found }
+{
+    match found {
+        None => Err(FileFault::NotFound),
+        Some(file) => Ok(file),
+    }
+}
+
+/// The file of these that has a name.
+fn file_named(name: Name, files: &[VolumeFile]) -> Option<VolumeFile>
+    ensures { result ≡ spec.file_named name files.now }
+{
+    let mut rest = files;
+    while let [file, others @ ..] = rest {
+        if file.name == name {
             return Some(*file);
         }
         rest = others;

@@ -1,5 +1,5 @@
 //! Files of one image that are put into another, all or none.
-ghost use Rattle.std.specs.Prelude.{◌≡◌, IfOk};
+ghost use Rattle.std.specs.Prelude.{◌≡◌, IfOk, option_copied};
 ghost use Rattle.archive_many.specs.Copying as spec;
 ghost use Rattle.archive_many.specs.Copying.{CopiesAll};
 ghost use Rattle.archive_many.specs.CopySteps.{CopiesEach, CopiesNext, RefusesOlder};
@@ -11,21 +11,22 @@ use crate::opened::open;
 use archive_files::{Asked, copy};
 use std::alloc::{AllocError, Global};
 
-/// The image into which these files of another image are put, each as `archive_files::copy` does it, all or none. Both images that are
-/// handed in stay as they are. None of the files may be there by its name, unless older ones may go (OS/8 Software Support Manual; the faults and
-/// their order are this project's profile).
+/// The image into which these files of another image are put, each as `archive_files::copy` does it, all or none. A new name is for a list of one.
+/// Both images that are handed in stay as they are. None of the files may be there by its name, unless older ones may go (OS/8 Software Support
+/// Manual; the faults and their order are this project's profile).
 pub fn copy_all(
     alloc: Global,
     from: &[u8],
     files: &[VolumeFile],
+    new_name: Option<&[u8]>,
     to: &[u8],
     is_forced: bool,
 ) -> Result<Vec<u8>, CopyAllFault>
-    ensures { CopiesAll from.now to.now files.now is_forced result }
+    ensures { CopiesAll from.now to.now (option_copied new_name.entry) files.now is_forced result }
 {
     refuse_older(alloc, files, to, is_forced)?;
     let image = copy_of(alloc, to)?;
-    copy_each(alloc, from, files, image)
+    copy_each(alloc, from, files, new_name, image)
 }
 
 /// Refuses the first of these files of whose name the volume in an image has one, unless older ones may go.
@@ -82,14 +83,15 @@ fn copy_each(
     alloc: Global,
     from: &[u8],
     files: &[VolumeFile],
+    new_name: Option<&[u8]>,
     to: Vec<u8>,
 ) -> Result<Vec<u8>, CopyAllFault>
-    ensures { CopiesEach from.now to.items files.now result }
+    ensures { CopiesEach from.now to.items (option_copied new_name.entry) files.now result }
 {
     let mut image = to;
     let mut rest = files;
     while let [file, others @ ..] = rest {
-        image = copy_next(alloc, from, file, &image)?;
+        image = copy_next(alloc, from, file, new_name, &image)?;
         rest = others;
     }
     Ok(image)
@@ -100,11 +102,12 @@ fn copy_next(
     alloc: Global,
     from: &[u8],
     file: &VolumeFile,
+    new_name: Option<&[u8]>,
     to: &[u8],
 ) -> Result<Vec<u8>, CopyAllFault>
-    ensures { CopiesNext from.now to.now file.now result }
+    ensures { CopiesNext from.now to.now (option_copied new_name.entry) file.now result }
 {
-    match copy(alloc, from, &Asked::At(file.place), to, None) {
+    match copy(alloc, from, &Asked::At(file.place), to, new_name) {
         Ok(new) => Ok(new.bytes),
         Err(fault) => Err(CopyAllFault::File(*file, fault)),
     }

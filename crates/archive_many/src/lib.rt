@@ -19,15 +19,15 @@ mod putting;
 mod raw;
 mod wishes;
 
-pub use choosing::{at_place, choose_files};
+pub use choosing::{at_place, choose_files, file_asked};
 pub use copying::copy_all;
-pub use cutting::{cut_file, cut_files};
+pub use cutting::cut_files;
 pub use emptying::empties;
 pub use extensions::{bad_extensions, is_text};
 pub use faults::{BlocksFault, ChoiceFault, CopyAllFault, ManyFault};
 pub use host_names::{host_name, volume_name};
 pub use listing::list_like;
-pub use naming::is_named;
+pub use naming::{copy_name, is_named};
 pub use opened::{OpenVolume, VolumeFile, open};
 pub use putting::{ManyImage, NewFile, put_all};
 pub use raw::blocks_of;

@@ -1,5 +1,5 @@
-//! Files that words name, and not only choose as a pattern does.
-ghost use Rattle.std.specs.Prelude.{◌≡◌, ◌||◌, map};
+//! Files that words name, and not only choose as a pattern does, and the names of copies.
+ghost use Rattle.std.specs.Prelude.{◌≡◌, ◌||◌, map, option_copied};
 ghost use Rattle.archive_many.specs.Naming as spec;
 
 use crate::VolumeFile;
@@ -48,4 +48,17 @@ fn place_is_among(place: usize, places: &[usize]) -> bool
         rest = others;
     }
     false
+}
+
+/// The name that the copy of a file gets: the new one that was typed, if that is one, or else its own (this project's profile).
+pub fn copy_name(file: &VolumeFile, new_name: Option<&[u8]>) -> Name
+    ensures { result ≡ spec.copy_name (option_copied new_name.entry) file.now.name }
+{
+    match new_name {
+        None => file.name,
+        Some(text) => match typed_name(text) {
+            None => file.name,
+            Some(name) => name,
+        },
+    }
 }

@@ -4,7 +4,6 @@ use file_kind::FileKind;
 use os8_dir::Name;
 use std::alloc::{AllocError, Global};
 use std::test::Fail;
-use volume_index::line_laws::{one_name, quoted_names};
 use volume_index::{IndexEntry, put_index};
 use word12::{Cell, Word};
 
@@ -34,7 +33,5 @@ fn files_have_lines(rt: HostRuntime) -> Result<(), Fail> {
     let wanted =
         b"a\\040b\t2\t70\t12\tPROG.SV\t1974-03-12\tcore-10200\td41d8cd98f00b204e9800998ecf8427e\n";
     assert!(rt; is_line(rt.alloc(), b"a b", wanted)?);
-    quoted_names();
-    one_name();
     Ok(())
 }

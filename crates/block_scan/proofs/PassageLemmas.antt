@@ -1,7 +1,7 @@
 -- How a text goes through frames.
 use Rattle.std.proofs.Common.{◌≡◌, ◌∙◌, ℕ, zero, suc, ◌%◌, Bool, true, false, true≢false, ◌||◌, ◌&&◌, nat_eq, if◌then◌else◌, List, [], ◌∷◌, ◌++◌, refl, sym, ap, arith, inl, inr}
 use Rattle.std.proofs.lemmas.Bool.Decides.{eqb_tells}
-use Rattle.file_kind.specs.Texts.{all_stand, all_zero, has_graphic, is_end, is_graphic, is_text, may_stand}
+use Rattle.file_kind.specs.Texts.{all_stand, all_zero, has_graphic, is_end, is_graphic, is_text, is_text_character}
 use Rattle.block_scan.specs.Passages.{end_or_break, passage}
 use Rattle.block_scan.specs.declared.passages.Passage.{Passage}
 use Rattle.block_scan.specs.declared.passages.Passage.TheVariants.{Goes, Ends, Breaks}
@@ -48,7 +48,7 @@ zero-none (suc frame) is = absurd (true≢false (sym is ∙ not-zero frame))
 pub ended : (frames : List ℕ) (seen now : Bool) → passage seen frames ≡ Ends now → IsEnded seen now frames
 ended [] seen now is = absurd (cc)
 ended (frame ∷ frames) seen now is =
-    ended-by (is_end frame) (nat_eq frame 0) (may_stand (frame % 0o200)) (is_graphic (frame % 0o200)) (all_zero frames) (all_stand frames) (has_graphic frames) seen now
+    ended-by (is_end frame) (nat_eq frame 0) (is_text_character (frame % 0o200)) (is_graphic (frame % 0o200)) (all_zero frames) (all_stand frames) (has_graphic frames) seen now
     (passage (seen || is_graphic (frame % 0o200)) frames) (zero-none frame) (zeros-none frames) (ended frames (seen || is_graphic (frame % 0o200)) now) is
 
 both : (a b : Bool) → a ≡ true → b ≡ true → (a && b) ≡ true
@@ -77,7 +77,7 @@ goes-on [] others seen now is = ap (λ p. passage p others) (same seen now is)
     same : (a b : Bool) → Goes a ≡ Goes b → a ≡ b
     same a b is = cc
 goes-on (frame ∷ frames) others seen now is =
-    goes-by (is_end frame) (nat_eq frame 0) (may_stand (frame % 0o200)) (all_zero frames) (all_zero (frames ++ others)) seen now (passage (seen || is_graphic (frame % 0o200)) frames)
+    goes-by (is_end frame) (nat_eq frame 0) (is_text_character (frame % 0o200)) (all_zero frames) (all_zero (frames ++ others)) seen now (passage (seen || is_graphic (frame % 0o200)) frames)
     (passage (seen || is_graphic (frame % 0o200)) (frames ++ others)) (passage now others) (goes-on frames others (seen || is_graphic (frame % 0o200)) now) is
 
 -- ## A graphic character that came before
@@ -100,5 +100,5 @@ seen-by false false false az seen next next' is = refl
 pub seen-before : (frames : List ℕ) (seen : Bool) → passage true frames ≡ with_seen (passage seen frames)
 seen-before [] seen = refl
 seen-before (frame ∷ frames) seen =
-    seen-by (is_end frame) (nat_eq frame 0) (may_stand (frame % 0o200)) (all_zero frames) seen (passage (seen || is_graphic (frame % 0o200)) frames) (passage true frames)
+    seen-by (is_end frame) (nat_eq frame 0) (is_text_character (frame % 0o200)) (all_zero frames) seen (passage (seen || is_graphic (frame % 0o200)) frames) (passage true frames)
     (seen-before frames (seen || is_graphic (frame % 0o200)))

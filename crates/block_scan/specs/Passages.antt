@@ -1,6 +1,6 @@
 -- How a text goes through frames (OS/8 Software Support Manual; which characters may stand in a text is this project's profile).
 use Rattle.std.specs.Prelude.{ℕ, ◌%◌, ◌||◌, nat_eq, Bool, true, false, if◌then◌else◌, List, [], ◌∷◌}
-use Rattle.file_kind.specs.Texts.{all_zero, is_end, is_graphic, may_stand}
+use Rattle.file_kind.specs.Texts.{all_zero, is_end, is_graphic, is_text_character}
 use Rattle.block_scan.specs.declared.passages.Passage.{Passage}
 use Rattle.block_scan.specs.declared.passages.Passage.TheVariants.{Goes, Ends, Breaks}
 
@@ -14,5 +14,5 @@ passage seen [] = Goes seen
 passage seen (frame ∷ others) =
     if is_end frame then Ends seen
     else if nat_eq frame 0 then end_or_break seen (all_zero others)
-    else if may_stand (frame % 0o200) then passage (seen || is_graphic (frame % 0o200)) others
+    else if is_text_character (frame % 0o200) then passage (seen || is_graphic (frame % 0o200)) others
     else Breaks

@@ -1,9 +1,9 @@
 //! How a text goes through frames.
 ghost use Rattle.std.specs.Prelude.{◌≡◌};
 ghost use Rattle.block_scan.specs.Passages as spec;
-ghost use Rattle.file_kind.specs.Texts as text;
 
 use char_pack::CONTROL_Z;
+use file_kind::{all_zero, is_graphic, is_text_character};
 
 /// What frames are for a text that reaches them.
 #[derive(Clone, Copy, PartialEq, Eq, Debug)]
@@ -33,7 +33,7 @@ pub fn passage_of(seen: bool, frames: &[u8]) -> Passage
         if *frame == 0 {
             return end_or_break(seen, all_zero(others));
         }
-        if !may_stand(character) {
+        if !is_text_character(character) {
             return Passage::Breaks;
         }
         seen = seen || is_graphic(character);
@@ -49,32 +49,4 @@ fn end_or_break(seen: bool, is_end: bool) -> Passage
         return Passage::Ends(seen);
     }
     Passage::Breaks
-}
-
-/// Whether frames are all 0.
-fn all_zero(frames: &[u8]) -> bool
-    ensures { result ≡ text.all_zero frames.now }
-{
-    let mut rest = frames;
-    while let [frame, others @ ..] = rest {
-        if *frame != 0 {
-            return false;
-        }
-        rest = others;
-    }
-    true
-}
-
-/// Whether a character may stand in a text: it is graphic or a blank, or BEL, TAB, LF, VT, FF, CR or a rubout.
-fn may_stand(character: u8) -> bool
-    ensures { result ≡ text.may_stand character }
-{
-    matches!(character, 0o07 | 0o11..=0o15 | 0o40..=0o177)
-}
-
-/// Whether a character is seen.
-fn is_graphic(character: u8) -> bool
-    ensures { result ≡ text.is_graphic character }
-{
-    matches!(character, 0o41..=0o176)
 }

@@ -1,8 +1,8 @@
 //! The segments of a directory among blocks.
-ghost use Rattle.std.specs.Prelude.{◌≡◌, ◌++◌, length, IfOk, OnOk, MatchOption, Ok, Result, is_ok, false};
+ghost use Rattle.std.specs.Prelude.{◌≡◌, ◌++◌, length, IfErr, IfOk, OnOk, MatchOption, Ok, Result, is_ok, false};
 ghost use Rattle.volume_image.specs.Volume.{IsBlock, IsVolume};
 ghost use Rattle.os8_dir.specs.Entries.{DirectoryState};
-ghost use Rattle.os8_dir.specs.Reading.{MeetsFault};
+ghost use Rattle.os8_dir.specs.Reading.{IsOfWords, MeetsFault};
 ghost use Rattle.os8_dir.specs.declared.faults.DirFault.{DirFault as Fault};
 ghost use Rattle.block_scan.specs.Segments as spec;
 ghost use Rattle.block_scan.specs.SegmentSteps.{IsNone, without_link};
@@ -113,7 +113,8 @@ fn block_without_link(words: &[Word]) -> Block
 
 /// What is known of a segment that has this fault: it is not sound, or memory ran out.
 fn no_directory(fault: DirFault) -> Result<Option<Directory>, AllocError>
-    ensures { (read : Result DirectoryState Fault) → MeetsFault fault read → IsNone result read }
+    ensures none { (read : Result DirectoryState Fault) → MeetsFault fault read → IsNone result read }
+    ensures lack { IfErr result (λ error. IsOfWords fault → ⊥) }
 {
     match fault {
         DirFault::Memory | DirFault::Device => Err(AllocError),

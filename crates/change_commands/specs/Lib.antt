@@ -1,9 +1,7 @@
 pub mod Changing
 pub mod ChoiceSteps
 pub mod Choosing
-pub mod CopySteps
 pub mod Copying
-pub mod CopyingMany
 pub mod Creating
 pub mod DeleteSteps
 pub mod Deleting

@@ -8,6 +8,7 @@ use Rattle.archive_many.specs.declared.opened.VolumeFile.{VolumeFile}
 use Rattle.outcome.specs.declared.endings.Ending.{Ending}
 use Rattle.outcome.specs.declared.endings.Ending.TheVariants.{Fault, Line}
 use Rattle.program_reports.specs.declared.programs.ProgramLine.TheVariants.{CopyExists}
+use Rattle.program_tasks.specs.declared.forms.CopyChoice.{CopyChoice}
 use Rattle.image_files.specs.Work.{OrLacks, EndsBy}
 use Rattle.change_commands.specs.Refusing.{RefusesWish, TellsFile, TellsWord}
 
@@ -19,5 +20,5 @@ abbrev pub IsRefused : List (List ℕ) → Wish → List Event → Ending → Li
 IsRefused words one = OrLacks (RefusesWish words one)
 
 -- a file of the name of one that is to be copied is there
-abbrev pub IsOlder : VolumeFile → List Event → Ending → List Event → Type 0
-IsOlder file = OrLacks (EndsBy (Line CopyExists) (TellsFile file))
+abbrev pub IsOlder : CopyChoice → VolumeFile → List Event → Ending → List Event → Type 0
+IsOlder files file = OrLacks (EndsBy (Line CopyExists) (TellsFile files file))

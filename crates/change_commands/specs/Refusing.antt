@@ -1,4 +1,4 @@
--- Why several files are not copied, and what is printed of it.
+-- Why files are not copied, and what is printed of it.
 use Rattle.std.specs.Prelude.{◌≡◌, ◌⊎◌, ℕ, Bool, Option, None, Some, List, ◌∷◌, slice_get}
 use Rattle.hosts.specs.Event.{Event, tell_call}
 use Rattle.os8_dir.specs.declared.file_faults.FileFault.TheVariants.{BadName, NotFound}
@@ -16,7 +16,9 @@ use Rattle.outcome.specs.declared.notes.NameNote.TheVariants.{NotCopied}
 use Rattle.outcome.specs.declared.endings.Ending.{Ending}
 use Rattle.outcome.specs.declared.endings.Ending.TheVariants.{Fault, Line}
 use Rattle.program_reports.specs.declared.programs.ProgramLine.TheVariants.{CopyExists}
-use Rattle.program_tasks.specs.declared.forms.CopyManyForm.{CopyManyForm}
+use Rattle.program_tasks.specs.declared.forms.CopyChoice.{CopyChoice}
+use Rattle.program_tasks.specs.declared.forms.CopyChoice.TheVariants.{One, Like}
+use Rattle.program_tasks.specs.declared.forms.CopyForm.{CopyForm}
 use Rattle.image_files.specs.Work.{Lacks, OrLacks, EndsBy}
 use Rattle.image_files.specs.Pairs.{IsOneRefused}
 
@@ -36,16 +38,17 @@ RefusesWish words (wish.Block block) old ending new = (ending ≡ Fault (session
 
 -- ## A file that can't be copied
 
--- a file is printed by the name that it has on a host
-abbrev pub TellsFile : VolumeFile → List Event → List Event → Type 0
-TellsFile file old new = (text : List ℕ) × NamesHost file text × (ok : Bool) × (new ≡ tell_call ok (name_text NotCopied text) ∷ old)
+-- where words choose files, one is printed by the name that it has on a host
+abbrev pub TellsFile : CopyChoice → VolumeFile → List Event → List Event → Type 0
+TellsFile (One asked name) file old new = new ≡ old
+TellsFile (Like words is_forced) file old new = (text : List ℕ) × NamesHost file text × (ok : Bool) × (new ≡ tell_call ok (name_text NotCopied text) ∷ old)
 
 -- A file is printed that is refused: a file of its name is there, or it can't be put. It is printed too which of the two images refuses, of so many
 -- bytes the one and of so many the other. Where memory is wanted for a note, that ends the command.
-abbrev pub RefusesCopies : CopyManyForm → CopyAllFault → ℕ → ℕ → List Event → Ending → List Event → Type 0
+abbrev pub RefusesCopies : CopyForm → CopyAllFault → ℕ → ℕ → List Event → Ending → List Event → Type 0
 RefusesCopies form (To fault) from to old ending new = IsOneRefused form.to.file.bytes.items fault to old ending new
-RefusesCopies form (Exists file) from to old ending new = OrLacks (EndsBy (Line CopyExists) (TellsFile file)) old ending new
+RefusesCopies form (Exists file) from to old ending new = OrLacks (EndsBy (Line CopyExists) (TellsFile form.files file)) old ending new
 RefusesCopies form (File file (From fault)) from to old ending new = IsOneRefused form.image.file.bytes.items fault from old ending new
 RefusesCopies form (File file (one.To fault)) from to old ending new =
-    ((between : List Event) × TellsFile file old between × IsOneRefused form.to.file.bytes.items fault to between ending new) ⊎ Lacks old ending new
+    ((between : List Event) × TellsFile form.files file old between × IsOneRefused form.to.file.bytes.items fault to between ending new) ⊎ Lacks old ending new
 RefusesCopies form Memory from to old ending new = Lacks old ending new

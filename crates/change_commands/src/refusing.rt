@@ -1,4 +1,4 @@
-//! Why several files are not copied, and what is printed of it.
+//! Why files are not copied, and what is printed of it.
 ghost use Rattle.std.specs.Prelude.{◌≡◌, false, map, slice_get, OnErr, OnOk};
 ghost use Rattle.archive_many.specs.Wishing.{is_file};
 ghost use Rattle.archive_many.specs.declared.faults.CopyAllFault.TheVariants as copying;
@@ -12,7 +12,7 @@ use image_files::{refuse_one, tell_note};
 use os8_files::FileFault;
 use outcome::{Ending, NameNote, Note};
 use program_reports::ProgramLine;
-use program_tasks::CopyManyForm;
+use program_tasks::{CopyChoice, CopyForm};
 use refusals::SessionFault;
 use std::alloc::{AllocError, Global};
 
@@ -69,7 +69,7 @@ fn tell_word<H: Host>(
 pub fn refuse_copies<H: Host>(
     host: &mut H,
     alloc: Global,
-    form: &CopyManyForm,
+    form: &CopyForm,
     from: usize,
     to: usize,
     fault: CopyAllFault,
@@ -78,17 +78,22 @@ pub fn refuse_copies<H: Host>(
 {
     match fault {
         CopyAllFault::To(fault) => refuse_one(host, alloc, form.to.file.as_str(), to, fault),
-        CopyAllFault::Exists(file) => refuse_older(host, alloc, &file),
+        CopyAllFault::Exists(file) => refuse_older(host, alloc, &form.files, &file),
         CopyAllFault::File(file, fault) => refuse_file(host, alloc, form, from, to, &file, fault),
         CopyAllFault::Memory => Ending::Fault(SessionFault::Memory),
     }
 }
 
 /// How the command ends where a file of the name of this one is there. It is printed.
-fn refuse_older<H: Host>(host: &mut H, alloc: Global, file: &VolumeFile) -> Ending
-    ensures { IsOlder file.now (H.history host.old) result (H.history host.new) }
+fn refuse_older<H: Host>(
+    host: &mut H,
+    alloc: Global,
+    files: &CopyChoice,
+    file: &VolumeFile,
+) -> Ending
+    ensures { IsOlder files.now file.now (H.history host.old) result (H.history host.new) }
 {
-    match tell_file(host, alloc, file) {
+    match tell_file(host, alloc, files, file) {
         Ok(()) => Ending::Line(ProgramLine::CopyExists),
         Err(error) => Ending::from(error),
     }
@@ -98,7 +103,7 @@ fn refuse_older<H: Host>(host: &mut H, alloc: Global, file: &VolumeFile) -> Endi
 fn refuse_file<H: Host>(
     host: &mut H,
     alloc: Global,
-    form: &CopyManyForm,
+    form: &CopyForm,
     from: usize,
     to: usize,
     file: &VolumeFile,
@@ -108,22 +113,32 @@ fn refuse_file<H: Host>(
 {
     match fault {
         CopyFault::From(fault) => refuse_one(host, alloc, form.image.file.as_str(), from, fault),
-        CopyFault::To(fault) => match tell_file(host, alloc, file) {
+        CopyFault::To(fault) => match tell_file(host, alloc, &form.files, file) {
             Ok(()) => refuse_one(host, alloc, form.to.file.as_str(), to, fault),
             Err(error) => Ending::from(error),
         },
     }
 }
 
-/// Prints that a file is refused.
-fn tell_file<H: Host>(host: &mut H, alloc: Global, file: &VolumeFile) -> Result<(), AllocError>
-    ensures told { OnOk result (TellsFile file.now (H.history host.old) (H.history host.new)) }
+/// Prints that a file is refused, where words choose files.
+fn tell_file<H: Host>(
+    host: &mut H,
+    alloc: Global,
+    files: &CopyChoice,
+    file: &VolumeFile,
+) -> Result<(), AllocError>
+    ensures told { OnOk result (TellsFile files.now file.now (H.history host.old) (H.history host.new)) }
     ensures wanted { OnErr result (H.history host.new ≡ H.history host.old) }
 {
-    let name = host_name(alloc, file)?;
-    tell_note(
-        host,
-        alloc,
-        Note::OnName(NameNote::NotCopied, name.as_str()),
-    )
+    match files {
+        CopyChoice::One(..) => Ok(()),
+        CopyChoice::Like(..) => {
+            let name = host_name(alloc, file)?;
+            tell_note(
+                host,
+                alloc,
+                Note::OnName(NameNote::NotCopied, name.as_str()),
+            )
+        }
+    }
 }

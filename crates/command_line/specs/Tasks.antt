@@ -12,6 +12,11 @@ use Rattle.disk_layouts.specs.declared.layouts.Layout.{Layout}
 use Rattle.program_tasks.specs.Names.{volume_named}
 use Rattle.program_tasks.specs.declared.archives.LineForm.{LineForm}
 use Rattle.program_tasks.specs.declared.archives.LineForm.TheVariants.{Columns, Json}
+use Rattle.program_tasks.specs.declared.boots.DiskForm.{DiskForm}
+use Rattle.program_tasks.specs.declared.boots.DriveForm.{DriveForm}
+use Rattle.program_tasks.specs.declared.devices.DeviceForm.{DeviceForm}
+use Rattle.program_tasks.specs.declared.forms.CopyChoice.{CopyChoice}
+use Rattle.program_tasks.specs.declared.forms.CopyChoice.TheVariants.{One, Like}
 use Rattle.program_tasks.specs.declared.forms.CreateForm.{CreateForm}
 use Rattle.archive_files.specs.declared.asking.Asked.{Asked}
 use Rattle.archive_files.specs.declared.asking.Asked.TheVariants.{Name, At}
@@ -27,7 +32,7 @@ use Rattle.program_tasks.specs.declared.tasks.RimForm.TheVariants.{Lines, Bin}
 use Rattle.program_tasks.specs.declared.tasks.Saving.{Saving}
 use Rattle.program_tasks.specs.declared.tasks.Saving.TheVariants.{AtEnd, Never, Always}
 use Rattle.program_tasks.specs.declared.tasks.Task.{Task}
-use Rattle.program_tasks.specs.declared.tasks.Task.TheVariants.{Tape, Rim, Source, Run, Create, CreateTape, CreateDisk, CreateVolume, ListLong, ListSome, Get, GetBin, GetMany, GetTexts, GetBlocks, Put, Delete, Rename, Copy, CopyMany, Squeeze, Check, Dump, Patch, Index, Rescue, Scan, Assemble, Teletype, Trace, Profile}
+use Rattle.program_tasks.specs.declared.tasks.Task.TheVariants.{Tape, Rim, Source, Run, Create, CreateTape, CreateDisk, CreateVolume, ListLong, ListSome, Get, GetBin, GetMany, GetTexts, GetBlocks, Put, Delete, Rename, Copy, Squeeze, Check, Dump, Patch, Index, Rescue, Scan, Assemble, Teletype, Trace, Profile, Boot}
 use Rattle.program_tasks.specs.declared.tasks.Task.TheVariants as task
 use Rattle.command_refusals.specs.declared.faults.TaskFault.{TaskFault}
 use Rattle.command_refusals.specs.declared.faults.TaskFault.TheVariants.{Words, Memory, Refused}
@@ -35,7 +40,7 @@ use Rattle.command_refusals.specs.declared.reasons.Refusal.{Refusal}
 use Rattle.command_table.specs.declared.table.TheConstants.{MOST_IMAGES}
 use Rattle.command_table.specs.declared.table.Verb.{Verb}
 use Rattle.command_table.specs.declared.table.Verb.TheVariants as verb
-use Rattle.command_table.specs.Found.{IsReadAs, bits_of, cell_of, date_year, has, is_set, layout_of, name_in, names_in, number_in, number_of, place_of, span_of, values_of, wait_of, word_of, year_of, IsInfo}
+use Rattle.command_table.specs.Found.{IsReadAs, time_or, is_among, bits_of, cell_of, date_year, has, is_set, layout_of, name_in, names_in, number_in, number_of, place_of, span_of, values_of, wait_of, word_of, year_of, IsInfo}
 use Rattle.command_refusals.specs.Refusals.{blocks_word, copies_pattern, input_count, prints_texts, refusal_of}
 use Rattle.command_table.specs.Tables.{Entry, entry_named, pdp8}
 use Rattle.command_refusals.specs.Faults.{RefusesOf}
@@ -92,6 +97,29 @@ machine_named name = if bytes_eq name (codes "8e") then EightE else EightI
 abbrev pub cpu_of : List Row → Cpu
 cpu_of values = option_map_or machine_named (first_of (codes "cpu") values) EightI
 
+-- a drive has the disk that an argument gives, if it is given, and is locked where `--lock` gives its number
+abbrev pub IsDrive : Text → Text → List Row → DriveForm → Type 0
+IsDrive id number values drive = (first_of id values ≡ option_map (λ image. image.bytes.items) drive.image)
+    × (drive.is_locked ≡ is_among number (values_of (codes "lock") values))
+
+-- the disks of a machine, that of drive 0 by this argument
+abbrev pub IsDisk : Text → List Row → DiskForm → Type 0
+IsDisk id values form = IsDrive id (codes "0") values form.drive0
+    × IsDrive (codes "rk1") (codes "1") values form.drive1 × IsDrive (codes "rk2") (codes "2") values form.drive2
+    × IsDrive (codes "rk3") (codes "3") values form.drive3 × (form.is_look ≡ is_set (codes "look") values)
+    × (form.disk_time ≡ time_or 10 (codes "disk-time") values) × (form.seek_time ≡ time_or 10 (codes "seek-time") values)
+
+-- the times of a disk are 0 to 1000000
+abbrev pub AreFitTimes : DiskForm → Type 0
+AreFitTimes form = (form.disk_time ≤ 1000000) × (form.seek_time ≤ 1000000)
+
+-- the tape in the reader, the files of punch and line printer, and the clock
+abbrev pub AreDevices : List Row → DeviceForm → Type 0
+AreDevices values form = (first_of (codes "reader") values ≡ option_map (λ name. name.bytes.items) form.reader)
+    × (first_of (codes "punch") values ≡ option_map (λ name. name.bytes.items) form.punch)
+    × (first_of (codes "printer") values ≡ option_map (λ name. name.bytes.items) form.printer)
+    × (option_map number_of (one_of (codes "clock") values) ≡ form.clock)
+
 -- a tape is traced or profiled so
 abbrev pub IsTraceForm : List Row → TraceForm → Type 0
 IsTraceForm values form = IsTape values form.tape
@@ -99,7 +127,8 @@ IsTraceForm values form = IsTape values form.tape
     × IsReadAs cell_of (first_of (codes "start") values) form.start
     × IsReadAs word_of (first_of (codes "switches") values) form.switches
     × (option_map number_of (one_of (codes "steps") values) ≡ form.steps)
-    × (first_of (codes "keys") values ≡ option_map (λ keys. keys.bytes.items) form.keys)
+    × (first_of (codes "keys") values ≡ option_map (λ keys. keys.bytes.items) form.keys) × IsDisk (codes "rk0") values form.disk
+    × AreDevices values form.devices
 
 -- ## The files of volumes
 
@@ -150,6 +179,14 @@ copied_names values = if copies_pattern values then name_or_none (name_in (codes
 
 abbrev pub target_id : List Row → Text
 target_id values = if copies_pattern values then codes "TO" else codes "to"
+
+-- which files are copied, and the volume that gets them: one, under a new name if one is given, or those of names or of a pattern
+abbrev pub AreCopied : List Row → CopyChoice → ImageForm → Type 0
+AreCopied values (One file name) to = (has (codes "to") values ≡ false) × (copies_pattern values ≡ false) × IsFile values file
+    × IsTarget (after (codes "NAME") (codes "TO") values) values to
+    × (name_in (after (codes "TO") (codes "NEW") values) values ≡ option_map (λ text. text.bytes.items) name)
+AreCopied values (Like names is_forced) to = (copied_names values ≡ map (λ name. name.bytes.items) names.items) × IsTarget (target_id values) values to
+    × (is_forced ≡ is_set (codes "force") values)
 
 -- which files are texts
 abbrev pub AreTexts : List Row → TextsForm → Type 0
@@ -225,12 +262,7 @@ AsksFor which values (Delete form) = (which ≡ verb.Delete) × IsChanged values
     × ArePlaces values form.places.items
 AsksFor which values (Rename image file new) = (which ≡ verb.Rename) × IsChanged values image × IsFile values file
     × (name_in (after (codes "NAME") (codes "NEW") values) values ≡ Some new.bytes.items)
-AsksFor which values (Copy form) = (which ≡ verb.Copy) × (has (codes "to") values ≡ false) × (copies_pattern values ≡ false) × IsSeen values form.image × IsFile values form.file
-    × IsTarget (after (codes "NAME") (codes "TO") values) values form.to
-    × (name_in (after (codes "TO") (codes "NEW") values) values ≡ option_map (λ name. name.bytes.items) form.new)
-AsksFor which values (CopyMany form) = (which ≡ verb.Copy) × IsSeen values form.image
-    × (copied_names values ≡ map (λ name. name.bytes.items) form.names.items) × IsTarget (target_id values) values form.to
-    × (form.is_forced ≡ is_set (codes "force") values)
+AsksFor which values (Copy form) = (which ≡ verb.Copy) × IsSeen values form.image × AreCopied values form.files form.to
 AsksFor which values (Squeeze image) = (which ≡ verb.Squeeze) × IsChanged values image
 AsksFor which values (Check form) = (which ≡ verb.Check) × (values_of (codes "IMAGE") values ≡ map (λ image. image.bytes.items) form.images.items)
     × (layout_of (codes "volume") (codes "dectape") values ≡ form.layout) × (form.is_plain ≡ is_set (codes "plain") values) × (form.is_all ≡ is_set (codes "all") values)
@@ -267,6 +299,11 @@ AsksFor which values (Teletype form) = (which ≡ verb.Teletype) × IsTape value
     × (form.is_raw ≡ is_set (codes "raw") values) × (form.is_live ≡ is_set (codes "live") values)
 AsksFor which values (Trace form) = (which ≡ verb.Trace) × IsTraceForm values form
 AsksFor which values (Profile form) = (which ≡ verb.Profile) × IsTraceForm values form
+AsksFor which values (Boot form) = (which ≡ verb.Boot) × IsDisk (codes "IMAGE") values form.disk
+    × IsReadAs word_of (first_of (codes "switches") values) form.switches
+    × (option_map number_of (one_of (codes "steps") values) ≡ form.steps) × (form.every ≡ time_or 1000000 (codes "every") values)
+    × (first_of (codes "ends-with") values ≡ option_map (λ name. name.bytes.items) form.ends_with) × (form.has_capitals ≡ is_set (codes "capitals") values)
+    × (form.is_raw ≡ is_set (codes "raw") values) × (form.is_live ≡ is_set (codes "live") values)
 
 -- and its arguments are not refused
 abbrev pub AsksOf : Option Entry → List Row → Task → Type 0
@@ -285,7 +322,7 @@ Refuses (Some met) line refusal = RefusesOf (entry_named met.0) met.1 line refus
 -- A new volume has 8 to 4095 blocks. Blocks are 0 to 4094, and their number is 1 to 4095. At least one file is put or taken out. 1 to 1000000
 -- images are checked, and an index is made of as many. A word of a block has a number below 256. There are 1 to 8 sources, of those of the host
 -- one at most standard input. There is a listing where there are cross references, and a volume where one gets the tape. A limit of instructions is 1
--- up.
+-- up. The times of a disk are 0 to 1000000, and so are the instructions between saves.
 abbrev pub HasFitBlocks : Task → Type 0
 HasFitBlocks (Create form blocks) = (8 ≤ blocks) × (blocks ≤ MOST_BLOCKS)
 HasFitBlocks (GetBlocks form) = (form.first ≤ 4094) × (1 ≤ form.count) × (form.count ≤ MOST_BLOCKS)
@@ -298,8 +335,9 @@ HasFitBlocks (Assemble form) = (1 ≤ length form.sources.items) × (length form
     × (form.from ≡ None → input_count (map (λ file. file.bytes.items) form.sources.items) ≤ 1)
     × (form.is_cross ≡ true → is_some form.list ≡ true) × (is_some form.onto ≡ true → is_some form.from ≡ true)
 HasFitBlocks (Teletype form) = IfSome form.steps (λ steps. 1 ≤ steps)
-HasFitBlocks (Trace form) = IfSome form.steps (λ steps. 1 ≤ steps)
-HasFitBlocks (Profile form) = IfSome form.steps (λ steps. 1 ≤ steps)
+HasFitBlocks (Trace form) = IfSome form.steps (λ steps. 1 ≤ steps) × AreFitTimes form.disk
+HasFitBlocks (Profile form) = IfSome form.steps (λ steps. 1 ≤ steps) × AreFitTimes form.disk
+HasFitBlocks (Boot form) = IfSome form.steps (λ steps. 1 ≤ steps) × AreFitTimes form.disk × (form.every ≤ 1000000)
 HasFitBlocks task = ⊤
 
 -- The answer to the command line with these words, the program's own name first. It is a task where `clap` finds no fault in the words and they

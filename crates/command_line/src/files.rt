@@ -21,7 +21,7 @@ use command_table::{
     names_of, number_of, text_of, texts_in, value_of, values_of, year_of,
 };
 use program_tasks::{
-    BlocksForm, CopyForm, CopyManyForm, DeleteForm, GetManyForm, GetTextsForm, ImageForm,
+    BlocksForm, CopyChoice, CopyForm, DeleteForm, GetManyForm, GetTextsForm, ImageForm,
     PutFilesForm, Task, TextsForm,
 };
 use std::alloc::Global;
@@ -252,11 +252,11 @@ fn several(found: &ArgMatches<'_>, image: ImageForm, names: Vec<String>, to: Ima
     requires to { IsTarget (spec.target_id (values_in found.now)) (values_in found.now) to }
     ensures { IsAskedBy verb.Copy (values_in found.now) result }
 {
-    Task::CopyMany(CopyManyForm {
+    let is_forced = flag(found, Verb::Copy, "force");
+    Task::Copy(CopyForm {
         image,
-        names,
+        files: CopyChoice::Like(names, is_forced),
         to,
-        is_forced: flag(found, Verb::Copy, "force"),
     })
 }
 
@@ -316,9 +316,8 @@ fn copy_one(alloc: Global, found: &ArgMatches<'_>) -> Read<Task>
     let new = name_if_given(alloc, found, Verb::Copy, after(found, "TO", "NEW"))?;
     Ok(Task::Copy(CopyForm {
         image,
-        file,
+        files: CopyChoice::One(file, new),
         to,
-        new,
     }))
 }
 

@@ -9,7 +9,7 @@ ghost use Rattle.program_tasks.specs.declared.tasks.Saving.TheVariants.{AtEnd, N
 ghost use Rattle.archive_files.specs.declared.forms.GetForm.TheVariants as get_as;
 ghost use Rattle.disk_layouts.specs.declared.layouts.Layout.TheVariants.{First, Second, Dectape};
 ghost use Rattle.word12.specs.declared.sizes.TheConstants.{MOST_BLOCKS};
-ghost use Rattle.command_table.specs.Found.{capitals, is_set, layout_of, name_in, names_in, wait_of};
+ghost use Rattle.command_table.specs.Found.{capitals, is_among, is_set, layout_of, name_in, names_in, time_or, values_of, wait_of};
 ghost use Rattle.command_line.specs.Plain.{AreTaken, IsTaken, after, alone, only_gives, in_place, with_value};
 ghost use Rattle.command_refusals.specs.Refusals.{refusal_of, together, value};
 ghost use Rattle.command_line.specs.Tasks.{cpu_of, get_form, line_form, rim_form, saving_of};
@@ -77,6 +77,8 @@ pub fn plain_words()
         (in_place (codes "NAME") text ∷ []) ∷ (with_value (codes "keys") text ∷ []) ∷ (with_value (codes "cpu") text ∷ []) ∷ [])) }
     ensures profile { (tape text : List ℕ) → AreTaken (codes "profile") (after (in_place (codes "TAPE") tape) ([] ∷
         (in_place (codes "NAME") text ∷ []) ∷ (with_value (codes "keys") text ∷ []) ∷ (with_value (codes "cpu") text ∷ []) ∷ [])) }
+    ensures boot { (image text : List ℕ) → AreTaken (codes "boot") (after (in_place (codes "IMAGE") image) ([] ∷
+        (alone (codes "look") ∷ []) ∷ (with_value (codes "rk1") text ∷ []) ∷ (with_value (codes "lock") text ∷ []) ∷ [])) }
     ensures check { (image text : List ℕ) → AreTaken (codes "check") (after (in_place (codes "IMAGE") image) ([] ∷
         (in_place (codes "IMAGE") text ∷ []) ∷ (alone (codes "all") ∷ []) ∷ (with_value (codes "volume") text ∷ []) ∷
         (alone (codes "dectape") ∷ []) ∷ (alone (codes "all") ∷ alone (codes "lenient") ∷ []) ∷ [])) }
@@ -122,6 +124,13 @@ pub fn options()
         × (cpu_of (only_gives (codes "trace") (with_value (codes "cpu") (codes "8e") ∷ [])) ≡ EightE) }
     ensures no_cpu { refusal_of verb.Trace (only_gives (codes "trace") (with_value (codes "cpu") (codes "8a") ∷ []))
         ≡ Some (value (codes "--cpu <CPU>") (codes "not 8i or 8e") (codes "8a")) }
+    ensures boot { (time_or 10 (codes "disk-time") (only_gives (codes "boot") []) ≡ 10)
+        × (time_or 10 (codes "disk-time") (only_gives (codes "boot") (with_value (codes "disk-time") (codes "1000000") ∷ [])) ≡ 1000000)
+        × (time_or 1000000 (codes "every") (only_gives (codes "boot") []) ≡ 1000000)
+        × (time_or 1000000 (codes "every") (only_gives (codes "boot") (with_value (codes "every") (codes "0") ∷ [])) ≡ 0)
+        × (is_set (codes "look") (only_gives (codes "boot") []) ≡ false)
+        × (is_among (codes "0") (values_of (codes "lock") (only_gives (codes "boot") (with_value (codes "lock") (codes "0") ∷ with_value (codes "lock") (codes "2") ∷ []))) ≡ true)
+        × (is_among (codes "1") (values_of (codes "lock") (only_gives (codes "boot") (with_value (codes "lock") (codes "0") ∷ with_value (codes "lock") (codes "2") ∷ []))) ≡ false) }
     ensures wait { (wait_of (only_gives (codes "squeeze") []) ≡ 0)
         × (wait_of (only_gives (codes "squeeze") (with_value (codes "wait") (codes "30") ∷ [])) ≡ 30) }
     ensures names { (file other : List ℕ) → (name_in (codes "NAME") (only_gives (codes "tape") (in_place (codes "NAME") file ∷ [])) ≡ Some (capitals file))

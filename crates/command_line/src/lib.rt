@@ -2,6 +2,8 @@
 #![tactic(auto)]
 
 mod archives;
+mod boots;
+mod devices;
 mod files;
 mod laws;
 mod tapes;

@@ -1,6 +1,6 @@
 //! What is asked of tapes and of sources.
 ghost use Rattle.std.specs.Prelude.{◌≡◌, ◌≤◌, codes, map, true, IfOk, IfSome, Some};
-ghost use Rattle.command_line.specs.Tasks.{IsTape, IsTapeOrInput, IsTraceForm};
+ghost use Rattle.command_line.specs.Tasks.{AreFitTimes, IsTape, IsTapeOrInput, IsTraceForm};
 ghost use Rattle.command_table.specs.Values.{Has, has_text, kind_at, values_in};
 ghost use Rattle.command_line.specs.Steps.{IsAskedBy, Needs};
 ghost use Rattle.command_table.specs.Found.{is_set};
@@ -10,6 +10,8 @@ ghost use Rattle.command_table.specs.declared.table.Kind.TheVariants as kind;
 ghost use Rattle.command_line.specs.Tasks as spec;
 ghost use Rattle.command_table.specs.declared.table.Verb.TheVariants as verb;
 
+use crate::boots::disk_of;
+use crate::devices::devices_of;
 use crate::volumes::{changed_image, image_of};
 use clap::ArgMatches;
 use command_table::{
@@ -195,12 +197,17 @@ pub fn trace_form(alloc: Global, found: &ArgMatches<'_>) -> Read<TraceForm>
     requires { Needs verb.Trace (values_in found.now) }
     ensures form { IfOk result (IsTraceForm (values_in found.now)) }
     ensures limit { IfOk result (λ form. IfSome form.steps (λ steps. 1 ≤ steps)) }
+    ensures times { IfOk result (λ form. AreFitTimes form.disk) }
 {
     let tape = tape_of(alloc, found, Verb::Trace)?;
+    let disk = disk_of(alloc, found, Verb::Trace, "rk0")?;
+    let devices = devices_of(alloc, found, Verb::Trace)?;
     let keys = value_if_given(alloc, found, Verb::Trace, "keys")?;
     Ok(TraceForm {
         tape,
         cpu: cpu_of(found, Verb::Trace),
+        disk,
+        devices,
         start: cell_of(found, Verb::Trace, "start"),
         switches: octal_of(found, Verb::Trace, "switches"),
         steps: count_of(found, Verb::Trace, "steps"),

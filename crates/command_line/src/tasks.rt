@@ -7,6 +7,7 @@ ghost use Rattle.command_table.specs.Values.{values_in};
 ghost use Rattle.command_line.specs.Tasks.{Answers, IsPastClap};
 
 use crate::archives::{dump, index, patch, rescue, scan};
+use crate::boots::boot;
 use crate::files::{copy, delete, get, put, rename};
 use crate::tapes::{assemble, rim, source, tape, teletype, trace_form};
 use crate::volumes::{changed_image, check, create, list, run};
@@ -82,6 +83,7 @@ fn task_of_verb(alloc: Global, verb: Verb, found: &ArgMatches<'_>) -> Read<Task>
         Verb::Teletype => teletype(alloc, found),
         Verb::Trace => Ok(Task::Trace(trace_form(alloc, found)?)),
         Verb::Profile => Ok(Task::Profile(trace_form(alloc, found)?)),
+        Verb::Boot => boot(alloc, found),
         Verb::Run => run(alloc, found),
         Verb::Create => create(alloc, found),
         Verb::List => list(alloc, found),

@@ -10,7 +10,7 @@ use Rattle.command_refusals.specs.declared.reasons.Refusal.TheVariants as refusa
 use Rattle.command_refusals.specs.declared.reasons.What.{What}
 use Rattle.command_refusals.specs.declared.reasons.What.TheVariants as what
 use Rattle.command_table.specs.declared.table.Form.{Form}
-use Rattle.command_table.specs.declared.table.Form.TheVariants.{Text as a_text, Cell, Octal, Volume, Cpu, Block, Seconds, Span, Index, Bits, Date, Year}
+use Rattle.command_table.specs.declared.table.Form.TheVariants.{Text as a_text, Cell, Octal, Volume, Cpu, Drive, Time, Block, Seconds, Span, Index, Bits, Date, Year}
 use Rattle.command_table.specs.declared.table.Kind.{Kind}
 use Rattle.command_table.specs.declared.table.Kind.TheVariants as kind
 use Rattle.command_table.specs.declared.table.Verb.{Verb}
@@ -156,6 +156,24 @@ tape_missing values =
     if has (codes "NAME") values || not (says_where values) then None
     else if has (codes "TAPE") values then Some what.Name else Some what.TapeAndName
 
+-- a file of a drive is named
+abbrev pub names_disk : List Row → Bool
+names_disk values = has (codes "rk0") values || has (codes "rk1") values || has (codes "rk2") values || has (codes "rk3") values
+
+-- something is said of the disk of an 8/E
+abbrev pub says_of_disk : List Row → Bool
+says_of_disk values = names_disk values || has (codes "lock") values || is_set (codes "look") values || has (codes "disk-time") values || has (codes "seek-time") values
+
+-- the machine is an 8/E
+abbrev pub is_8e : Option Text → Bool
+is_8e None = false
+is_8e (Some name) = bytes_eq name (codes "8e")
+
+-- of the file of a program whose steps are printed or counted, or the machine of which something is said
+abbrev pub steps_missing : List Row → Option What
+steps_missing values =
+    if says_of_disk values && not (is_8e (first_of (codes "cpu") values)) then Some what.Cpu else tape_missing values
+
 -- something is said of the volume that has the sources
 abbrev pub says_of_volume : List Row → Bool
 says_of_volume values = has (codes "onto") values || says_where values
@@ -190,8 +208,8 @@ missing_of verb.Tape values = tape_missing values
 missing_of verb.Rim values = tape_missing values
 missing_of verb.Source values = tape_missing values
 missing_of verb.Teletype values = tape_missing values
-missing_of verb.Trace values = tape_missing values
-missing_of verb.Profile values = tape_missing values
+missing_of verb.Trace values = steps_missing values
+missing_of verb.Profile values = steps_missing values
 missing_of verb.Assemble values = assemble_missing values
 missing_of verb.Create values = if has (codes "BLOCKS") values || makes_disk values then None else Some what.Blocks
 missing_of verb.Get values =
@@ -232,6 +250,8 @@ why Cell = codes "not a cell, 0 to 77777 in octal, or F:AAAA"
 why Octal = codes "not a word, 0 to 7777 in octal"
 why Volume = codes "not 1 or 2"
 why Cpu = codes "not 8i or 8e"
+why Drive = codes "not a drive, 0 to 3"
+why Time = codes "not a number of instructions, 0 to 1000000"
 why Block = codes "not a block, 0 to 4095"
 why Seconds = codes "not a number of seconds, 0 to 3600"
 why Span = codes "not a block, 0 to 4095, nor two with a hyphen between, the lower first"

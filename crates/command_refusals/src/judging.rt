@@ -13,7 +13,7 @@ use crate::reasons::Refusal;
 use clap::ArgMatches;
 use command_table::{
     Argument, Entry, Form, Kind, Pair, Verb, arguments_of, bits_in, cell_in, date_in, has, is_set,
-    number_in, pairs, span_in, text_of, texts_in, word_at, word_in,
+    number_in, pairs, span_in, text_of, texts_in, time_in, word_at, word_in,
 };
 use std::alloc::Global;
 use word12::MOST_BLOCKS;
@@ -190,6 +190,8 @@ fn is_of(form: Form, text: &str) -> bool
         Form::Octal => word_in(text.as_bytes()).is_some(),
         Form::Volume => text == "1" || text == "2",
         Form::Cpu => text == "8i" || text == "8e",
+        Form::Drive => text == "0" || (text == "1" || (text == "2" || text == "3")),
+        Form::Time => time_in(text.as_bytes()).is_some(),
         Form::Block => number_in(text.as_bytes(), 0, MOST_BLOCKS).is_some(),
         Form::Seconds => number_in(text.as_bytes(), 0, 3600).is_some(),
         Form::Span => span_in(text.as_bytes()).is_some(),
@@ -222,6 +224,8 @@ fn why(form: Form) -> &'static str
         Form::Octal => "not a word, 0 to 7777 in octal",
         Form::Volume => "not 1 or 2",
         Form::Cpu => "not 8i or 8e",
+        Form::Drive => "not a drive, 0 to 3",
+        Form::Time => "not a number of instructions, 0 to 1000000",
         Form::Block => "not a block, 0 to 4095",
         Form::Seconds => "not a number of seconds, 0 to 3600",
         Form::Span => "not a block, 0 to 4095, nor two with a hyphen between, the lower first",

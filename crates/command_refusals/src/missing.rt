@@ -24,8 +24,9 @@ pub fn missing_of(found: &ArgMatches<'_>, which: Verb) -> Option<What>
         Verb::Rename => moved_missing(found, "NEW", What::New, What::NameAndNew),
         Verb::Copy => copy_missing(found),
         Verb::Tape | Verb::Rim | Verb::Source => tape_missing(found),
-        Verb::Teletype | Verb::Trace | Verb::Profile => tape_missing(found),
-        Verb::Run | Verb::List | Verb::Squeeze | Verb::Check => None,
+        Verb::Teletype => tape_missing(found),
+        Verb::Trace | Verb::Profile => steps_missing(found),
+        Verb::Boot | Verb::Run | Verb::List | Verb::Squeeze | Verb::Check => None,
         Verb::Dump | Verb::Patch | Verb::Index | Verb::Rescue | Verb::Scan => None,
     }
 }
@@ -68,6 +69,44 @@ fn tape_missing(found: &ArgMatches<'_>) -> Option<What>
         return Some(What::Name);
     }
     Some(What::TapeAndName)
+}
+
+/// What is missing where the steps of a program are printed or counted: of its file, or the machine of which something is said.
+fn steps_missing(found: &ArgMatches<'_>) -> Option<What>
+    ensures { result ≡ spec.steps_missing (values_in found.now) }
+{
+    if says_of_disk(found) && !is_8e(text_of(found, "cpu")) {
+        return Some(What::Cpu);
+    }
+    tape_missing(found)
+}
+
+/// Whether the name of a machine is that of an 8/E.
+fn is_8e(name: Option<&str>) -> bool
+    ensures { result ≡ spec.is_8e (option_map (λ text. text.now) name.entry) }
+{
+    match name {
+        None => false,
+        Some(name) => name == "8e",
+    }
+}
+
+/// Whether something is said of the disk of an 8/E.
+fn says_of_disk(found: &ArgMatches<'_>) -> bool
+    ensures { result ≡ spec.says_of_disk (values_in found.now) }
+{
+    names_disk(found)
+        || has(found, "lock")
+        || is_set(found, "look")
+        || has(found, "disk-time")
+        || has(found, "seek-time")
+}
+
+/// Whether a file of a drive is named.
+fn names_disk(found: &ArgMatches<'_>) -> bool
+    ensures { result ≡ spec.names_disk (values_in found.now) }
+{
+    has(found, "rk0") || has(found, "rk1") || has(found, "rk2") || has(found, "rk3")
 }
 
 /// What is missing where sources are assembled: a listing for its cross references, PAL8 or the volume of which something is said, or the file that

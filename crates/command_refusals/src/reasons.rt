@@ -34,6 +34,8 @@ pub enum What {
     Onto,
     #[error("--pal8")]
     Pal8,
+    #[error("--cpu 8e")]
+    Cpu,
 }
 
 /// What is refused.

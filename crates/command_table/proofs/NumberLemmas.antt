@@ -27,10 +27,13 @@ abbrev pub limit : ℕ → ℕ
 limit zero = 1
 limit (suc count) = 10 * limit count
 
--- before the last of four digits
-pub three_digits : (count value : ℕ) → count < 4 → value < limit count → value < 1000
-three_digits zero value short small = omega (arith, small)
-three_digits (suc zero) value short small = omega (arith, small)
-three_digits (suc (suc zero)) value short small = omega (arith, small)
-three_digits (suc (suc (suc zero))) value short small = omega (arith, small)
-three_digits (suc (suc (suc (suc n)))) value short small = omega (arith, short)
+-- before the last of seven digits
+pub six_digits : (count value : ℕ) → count < 7 → value < limit count → value < 1000000
+six_digits zero value short small = omega (arith, small)
+six_digits (suc zero) value short small = omega (arith, small)
+six_digits (suc (suc zero)) value short small = omega (arith, small)
+six_digits (suc (suc (suc zero))) value short small = omega (arith, small)
+six_digits (suc (suc (suc (suc zero)))) value short small = omega (arith, small)
+six_digits (suc (suc (suc (suc (suc zero))))) value short small = omega (arith, small)
+six_digits (suc (suc (suc (suc (suc (suc zero)))))) value short small = omega (arith, small)
+six_digits (suc (suc (suc (suc (suc (suc (suc n))))))) value short small = omega (arith, short)

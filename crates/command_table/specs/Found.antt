@@ -7,7 +7,7 @@ use Rattle.clap.specs.Words.{Row, Text, all_of, first_of}
 use Rattle.command_table.specs.declared.table.Kind.{Kind}
 use Rattle.command_table.specs.declared.table.Kind.TheVariants.{Value, One, Many}
 use Rattle.command_table.specs.declared.table.Form.{Form}
-use Rattle.command_table.specs.declared.table.Form.TheVariants.{Text as a_text, Cell, Octal, Volume, Cpu, Block, Seconds, Span, Index, Bits, Date as a_date, Year}
+use Rattle.command_table.specs.declared.table.Form.TheVariants.{Text as a_text, Cell, Octal, Volume, Cpu, Drive, Time, Block, Seconds, Span, Index, Bits, Date as a_date, Year}
 use Rattle.word12.specs.Octal.{octal_of}
 use Rattle.os8_dates.specs.Dates.{word_of as word_of_date}
 use Rattle.os8_dates.specs.declared.dates.Date.{Date}
@@ -64,6 +64,10 @@ within least most (Some number) = if nat_le least number && nat_le number most t
 
 abbrev pub number_in : ℕ → ℕ → Text → Option ℕ
 number_in least most text = within least most (number_of_digits text)
+
+-- a number of instructions, 0 to 1000000
+abbrev pub time_of : Text → Option ℕ
+time_of text = if nat_lt 0 (length text) && nat_le (length text) 7 then within 0 1000000 (digits_from 0 text) else None
 
 -- an octal number of 1 to 5 digits, up to this one
 abbrev pub octal_to : ℕ → Text → Option ℕ
@@ -133,6 +137,15 @@ year_of values = option_and_then (number_in 1977 9999) (first_of (codes "year") 
 abbrev pub wait_of : List Row → ℕ
 wait_of values = unwrap_or (option_and_then (number_in 0 3600) (first_of (codes "wait") values)) 0
 
+-- the number of instructions that an option gives, or else this one
+abbrev pub time_or : ℕ → Text → List Row → ℕ
+time_or usual id values = unwrap_or (option_and_then time_of (first_of id values)) usual
+
+-- a text is one of these
+abbrev pub is_among : Text → List Text → Bool
+is_among text [] = false
+is_among text (other ∷ others) = if bytes_eq other text then true else is_among text others
+
 -- the number that decimal digits spell, after a plus sign if there is one
 abbrev pub number_of : Text → ℕ
 number_of text = digits_value 10 (without_leading_plus text)
@@ -180,6 +193,9 @@ passes Cell text = is_some (cell_of text)
 passes Octal text = is_some (word_of text)
 passes Volume text = bytes_eq text (codes "1") || bytes_eq text (codes "2")
 passes Cpu text = bytes_eq text (codes "8i") || bytes_eq text (codes "8e")
+passes Drive text =
+    bytes_eq text (codes "0") || (bytes_eq text (codes "1") || (bytes_eq text (codes "2") || bytes_eq text (codes "3")))
+passes Time text = is_some (time_of text)
 passes Block text = is_some (place_of text)
 passes Seconds text = is_some (number_in 0 3600 text)
 passes Span text = is_some (span_of text)

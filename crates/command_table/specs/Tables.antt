@@ -17,7 +17,7 @@ use Rattle.command_table.specs.declared.table.Kind.TheVariants.{Word, Value, Wor
 use Rattle.command_table.specs.declared.table.ArgumentOf.{ArgumentOf}
 use Rattle.command_table.specs.declared.table.EntryOf.{EntryOf}
 use Rattle.command_table.specs.declared.table.TheConstants.{COMMANDS, PAIRS}
-use Rattle.command_table.specs.declared.rows.TheConstants.{TAPE, RIM, SOURCE, ASSEMBLE, TELETYPE, TRACE, RUN, CREATE, LIST, GET, PUT, DELETE, RENAME, COPY, SQUEEZE, CHECK, DUMP, PATCH, INDEX, RESCUE, SCAN}
+use Rattle.command_table.specs.declared.rows.TheConstants.{TAPE, RIM, SOURCE, ASSEMBLE, TELETYPE, TRACE, BOOT, RUN, CREATE, LIST, GET, PUT, DELETE, RENAME, COPY, SQUEEZE, CHECK, DUMP, PATCH, INDEX, RESCUE, SCAN}
 use Rattle.command_table.specs.declared.table.Verb.{Verb}
 use Rattle.command_table.specs.declared.table.Verb.TheVariants as verb
 use Rattle.std.specs.Borrow.{Bor}
@@ -69,6 +69,7 @@ rows_for verb.Assemble = map declared_row ASSEMBLE.now
 rows_for verb.Teletype = map declared_row TELETYPE.now
 rows_for verb.Trace = map declared_row TRACE.now
 rows_for verb.Profile = map declared_row TRACE.now
+rows_for verb.Boot = map declared_row BOOT.now
 rows_for verb.Run = map declared_row RUN.now
 rows_for verb.Create = map declared_row CREATE.now
 rows_for verb.List = map declared_row LIST.now

@@ -9,7 +9,7 @@ ghost use Rattle.command_table.specs.declared.table.Form.TheVariants as form;
 ghost use Rattle.command_table.specs.declared.table.Kind.TheVariants as kind;
 ghost use Rattle.command_table.specs.Found as spec;
 
-use crate::numbers::{cell_in, date_in, number_in, span_in, word_in};
+use crate::numbers::{cell_in, date_in, number_in, span_in, time_in, word_in};
 use crate::table::Verb;
 use clap::ArgMatches;
 use disk_layouts::Layout;
@@ -227,6 +227,39 @@ pub fn octal_of(found: &ArgMatches<'_>, _verb: Verb, id: &str) -> Option<Word>
     ensures { IsReadAs spec.word_of (first_of id.now (values_in found.now)) result }
 {
     word_in(text_of(found, id)?.as_bytes())
+}
+
+/// The number of instructions that an option gives, or else this one.
+pub fn time_of(found: &ArgMatches<'_>, _verb: Verb, id: &str, usual: u32) -> u32
+    requires kind { kind_at id.now (rows_for _verb) ≡ Some (kind.One form.Time) }
+    requires usual { usual ≤ 1000000 }
+    ensures value { result ≡ spec.time_or usual id.now (values_in found.now) }
+    ensures range { result ≤ 1000000 }
+{
+    match text_of(found, id) {
+        Some(text) => time_in(text.as_bytes()).unwrap_or(usual),
+        None => usual,
+    }
+}
+
+/// Whether a drive is among those that an option gives.
+pub fn names_drive(found: &ArgMatches<'_>, _verb: Verb, id: &str, drive: &str) -> bool
+    requires { kind_at id.now (rows_for _verb) ≡ Some (kind.Many form.Drive) }
+    ensures { result ≡ spec.is_among drive.now (spec.values_of id.now (values_in found.now)) }
+{
+    is_among(texts_in(found, id), drive)
+}
+
+/// Whether a text is one of these.
+fn is_among(texts: &[&str], text: &str) -> bool
+    ensures { result ≡ spec.is_among text.now (map (λ it. it.now) texts.now) }
+{
+    for other in texts {
+        if *other == text {
+            return true;
+        }
+    }
+    false
 }
 
 /// The block of an option, the first, if it was given.

@@ -26,6 +26,7 @@ pub fn excluded_arguments()
         ∷ (codes "blocks", codes "force") ∷ (codes "blocks", codes "text-of") ∷ (codes "blocks", codes "tape")
         ∷ (codes "blocks", codes "bin") ∷ (codes "tape", codes "into") ∷ (codes "bin", codes "into") ∷ (codes "blocks", codes "year")
         ∷ (codes "as", codes "text-of") ∷ (codes "output", codes "onto") ∷ (codes "look", codes "keep") ∷ (codes "look", codes "wait")
+        ∷ (codes "look", codes "every")
         ∷ (codes "new", codes "wait") ∷ (codes "info", codes "date") ∷ (codes "info", codes "dates") ∷ (codes "date", codes "dates")
         ∷ [] }
 {}

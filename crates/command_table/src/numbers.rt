@@ -27,9 +27,23 @@ fn number(digits: &[u8]) -> Option<usize>
     digits_value(digits)
 }
 
+/// A number of instructions, 0 to 1000000, of 1 to 7 digits.
+pub fn time_in(digits: &[u8]) -> Option<u32>
+    ensures value { result ≡ spec.time_of digits.now }
+    ensures range { IfSome result (λ number. number ≤ 1000000) }
+{
+    if digits.is_empty() || digits.len() > 7 {
+        return None;
+    }
+    match digits_value(digits) {
+        Some(number) if number <= 1_000_000 => Some(number as u32),
+        _ => None,
+    }
+}
+
 /// The number of decimal digits.
 fn digits_value(digits: &[u8]) -> Option<usize>
-    requires { length digits.now ≤ 4 }
+    requires { length digits.now ≤ 7 }
     ensures { result ≡ digits_from 0 digits.now }
 {
     let mut value = 0;

@@ -5,8 +5,8 @@ ghost use Rattle.command_table.specs.Tables.{rows_for, entry_of, pair_of, row_of
 ghost use Rattle.command_table.specs.Tables as spec;
 
 use crate::rows::{
-    ASSEMBLE, CHECK, COPY, CREATE, DELETE, DUMP, GET, INDEX, LIST, PATCH, PUT, RENAME, RESCUE, RIM,
-    RUN, SCAN, SOURCE, SQUEEZE, TAPE, TELETYPE, TRACE,
+    ASSEMBLE, BOOT, CHECK, COPY, CREATE, DELETE, DUMP, GET, INDEX, LIST, PATCH, PUT, RENAME,
+    RESCUE, RIM, RUN, SCAN, SOURCE, SQUEEZE, TAPE, TELETYPE, TRACE,
 };
 
 /// What a value is.
@@ -25,6 +25,12 @@ pub enum Form {
 
     /// A machine, 8i or 8e.
     Cpu,
+
+    /// A drive, 0 to 3.
+    Drive,
+
+    /// A number of instructions, 0 to 1000000.
+    Time,
 
     /// A block, 0 to 4095.
     Block,
@@ -86,6 +92,7 @@ pub enum Verb {
     Teletype,
     Trace,
     Profile,
+    Boot,
     Run,
     Create,
     List,
@@ -165,6 +172,7 @@ pub const COMMANDS: &[Entry] = entries! {
     Verb::Teletype, "teletype", "Usage: pdp8 teletype [OPTIONS] <TAPE> [NAME]";
     Verb::Trace, "trace", "Usage: pdp8 trace [OPTIONS] <TAPE> [NAME]";
     Verb::Profile, "profile", "Usage: pdp8 profile [OPTIONS] <TAPE> [NAME]";
+    Verb::Boot, "boot", "Usage: pdp8 boot [OPTIONS] <IMAGE>";
     Verb::Run, "run", "Usage: pdp8 run [OPTIONS] <IMAGE>";
     Verb::Create, "create", "Usage: pdp8 create [OPTIONS] <IMAGE> [BLOCKS]";
     Verb::List, "list", "Usage: pdp8 list [OPTIONS] <IMAGE> [NAME]...";
@@ -211,6 +219,7 @@ pub const PAIRS: &[Pair] = &[
     ("output", "onto"),
     ("look", "keep"),
     ("look", "wait"),
+    ("look", "every"),
     ("new", "wait"),
     ("info", "date"),
     ("info", "dates"),
@@ -229,6 +238,7 @@ pub fn arguments_of(verb: Verb) -> &'static [Argument]
         Verb::Teletype => TELETYPE,
         Verb::Trace => TRACE,
         Verb::Profile => TRACE,
+        Verb::Boot => BOOT,
         Verb::Run => RUN,
         Verb::Create => CREATE,
         Verb::List => LIST,

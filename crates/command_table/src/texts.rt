@@ -17,6 +17,7 @@ Machine:
   teletype  Run a BIN paper tape with the terminal as the Teletype
   trace     Run a BIN paper tape, and print a line for each step
   profile   Run a BIN paper tape, and count how often each cell is fetched
+  boot      Boot an RK05 disk with the terminal as the console
 
 Volumes:
   run       Run a script on a volume
@@ -124,6 +125,11 @@ pub fn texts_of(verb: Verb) -> Texts {
             about: "Run a BIN paper tape, and count how often each cell is fetched",
             long_about: "Loads the BIN paper tape in the file TAPE into core, or that of the file NAME of the OS/8 volume{n}in the image TAPE, starts the processor, and prints how often the word of each cell was fetched,{n}the most often first, and which cells of the tape never were. It ends as teletype does, and after{n}1000000 steps if N isn't given; the last line is STEPS n, why, and the cell. The exit status is 0,{n}1 after a fault, and 2 for a command line that is refused.",
             examples: "Examples:\n  pdp8 profile hello.bin\n  pdp8 profile disk.rk05 hello.bn --steps 50000",
+        },
+        Verb::Boot => Texts {
+            about: "Boot an RK05 disk with the terminal as the console",
+            long_about: "Boots the RK05 disk in the file IMAGE, which is in drive 0 of a PDP-8/E: sector 0 goes to the cells{n}from 00000 on, and runs. What it prints goes to standard output with its top bit dropped; standard{n}input is the keyboard. It ends as teletype does. At the end each file whose disk was written gets{n}what is on the disk, whole. With --look no file is written. The exit status is 0 after HALT or where{n}the keys ended, 1 after the limit or a fault of a file, and 2 for a command line that is refused.",
+            examples: "Examples:\n  pdp8 boot disk.rk05 --look\n  pdp8 boot disk.rk05 --rk1 data.rk05 --lock 0 --capitals",
         },
         Verb::Run => Texts {
             about: "Run a script on a volume",

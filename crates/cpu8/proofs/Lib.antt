@@ -1,6 +1,7 @@
 pub mod RotationLemmas
 pub mod TurnLemmas
 pub mod StepLemmas
+pub mod StoreLemmas
 pub mod RunLemmas
 pub mod OutcomeLemmas
 pub mod InstructionLemmas

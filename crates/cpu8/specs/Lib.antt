@@ -6,6 +6,7 @@ pub mod Rotation
 pub mod Operate
 pub mod Transfer
 pub mod Step
+pub mod Stores
 pub mod Go
 pub mod QuietSteps
 pub mod Unasked

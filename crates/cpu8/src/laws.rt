@@ -1,13 +1,15 @@
 //! Laws of the machine, above the instruction table.
 
-ghost use Rattle.std.specs.Prelude.{◌≡◌, ◌≢◌, ℕ, ◌+◌, ◌-◌, ◌%◌, ◌<◌, Bool, true, false, List, [], length, slice_index};
+ghost use Rattle.std.specs.Prelude.{◌≡◌, ◌≢◌, ℕ, ◌+◌, ◌-◌, ◌%◌, ◌<◌, ◌≤◌, Bool, true, false, List, [], length, slice_index};
 ghost use Rattle.cpu8.specs.State.{State, printer_done};
 ghost use Rattle.cpu8.specs.Reference.{effective_address, operand, operand_place, pointer_place};
 ghost use Rattle.cpu8.specs.Step.{next_word, step};
 ghost use Rattle.cpu8.specs.declared.decoding.Operation.{Operation};
 ghost use Rattle.cpu8.specs.declared.decoding.Operation.TheVariants.{Tad, Isz, Jms, Jmp};
 ghost use Rattle.cpu8.specs.declared.outcomes.Stepped.TheVariants.{Interrupted};
-ghost use Rattle.cpu8.specs.Go.{IsGo, is_break};
+ghost use Rattle.cpu8.specs.Stores.{stored, stores};
+ghost use Rattle.cpu8.specs.Go as Go;
+ghost use Rattle.cpu8.specs.Go.{IsGo, is_break, printing_step};
 ghost use Rattle.cpu8.specs.declared.outcomes.Why.{Why};
 ghost use Rattle.cpu8.specs.Laws.{cia, tsf, tls, cif, rmf, later, next_pointer, IsIon, IsNextWord, IsRequested, NoJump, UsesAutoIndex, ral, rtl, rar, rtr, cll_cml, after, link_and_ac, HasLinkAndAc, IsNext, runs_on, Skips, SkipsNot, IsTest, IsCallAndReturn, IsInterruptAndReturn, Resumes};
 
@@ -120,4 +122,16 @@ pub fn running()
 /// A step keeps the number of cells.
 pub fn core_size()
     ensures { (s : State) → length (step s).0.core ≡ length s.core }
+{}
+
+/// A step stores what the instruction table says, at most two words, and leaves every other cell.
+pub fn stored_words()
+    ensures core { (s : State) → (step s).0.core ≡ stored (stores s) s.core }
+    ensures few { (s : State) → length (stores s) ≤ 2 }
+{}
+
+/// The state after one step more is that after a step of the state before.
+pub fn later_states()
+    ensures none { (quick : Bool) (s : State) → Go.after quick 0 s ≡ s }
+    ensures next { (quick : Bool) (k : ℕ) (s : State) → Go.after quick (k + 1) s ≡ (printing_step quick (Go.after quick k s)).0 }
 {}

@@ -13,3 +13,4 @@ mod rotations;
 
 pub use machines::Machine;
 pub use outcomes::{Gone, Stepped, Why};
+pub use processors::Processor;

@@ -1,4 +1,4 @@
-ghost use Rattle.std.specs.Prelude.{◌≡◌};
+ghost use Rattle.std.specs.Prelude.{◌≡◌, []};
 ghost use Rattle.std.specs.Borrow.{sem};
 ghost use Rattle.cpu8.specs.State.{new_machine, after_start, key_struck, printer_done, switches_set, with_core};
 ghost use Rattle.cpu8.specs.Step.{step};
@@ -69,6 +69,25 @@ impl Machine {
         ensures { self.new ≡ switches_set self.old word }
     {
         self.processor.switches = word;
+    }
+
+    /// The registers, the flags and the Teletype. A contract sees a state with no words of core.
+    #[inline]
+    pub fn registers(&self) -> Processor
+        ensures { result ≡ with_core self.now [] }
+    {
+        Processor {
+            l: self.processor.l,
+            ..self.processor
+        }
+    }
+
+    /// Gives the machine these registers, flags and Teletype. Core stays.
+    #[inline]
+    pub fn set_registers(&mut self, registers: Processor)
+        ensures { self.new ≡ with_core registers self.old.core }
+    {
+        self.processor = registers;
     }
 
     /// Core, to be examined.

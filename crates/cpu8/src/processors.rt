@@ -21,7 +21,7 @@ mod transfers;
 /// All of a machine but its core: the registers, the flags and the Teletype. A contract sees a state with no words of
 /// core.
 #[derive(Clone, Copy)]
-pub(crate) struct Processor {
+pub struct Processor {
     pub(crate) teletype: Teletype,
     pub(crate) l: u8,
     pub(crate) ac: Word,

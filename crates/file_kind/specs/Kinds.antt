@@ -1,18 +1,14 @@
 -- What a file holds, by its frames.
-use Rattle.std.specs.Prelude.{◌≡◌, ℕ, ◌<◌, true, false, List, length, slice_index}
+use Rattle.std.specs.Prelude.{◌≡◌, ℕ, true, false, List}
 use Rattle.bin_tape.specs.Items.{Item}
 use Rattle.bin_tape.specs.Tape.{IsTape}
 use Rattle.char_pack.specs.Packing.{words_of_bytes}
 use Rattle.core_image.specs.Fault.{IsSomeImage}
 use Rattle.core_image.specs.Image.{IsImage}
 use Rattle.rim_tape.specs.Fault.{IsSomeRim}
-use Rattle.file_kind.specs.Texts.{is_text}
+use Rattle.file_kind.specs.Texts.{all_zero, is_text}
 use Rattle.file_kind.specs.declared.kinds.FileKind.{FileKind}
 use Rattle.file_kind.specs.declared.kinds.FileKind.TheVariants.{Zeros, Core, Bin, Rim, Text, Unknown}
-
--- all frames are 0
-abbrev pub AreZeros : List ℕ → Type 0
-AreZeros frames = (k : ℕ) → k < length frames → slice_index frames k ≡ 0
 
 -- the words of the frames are a core image whose program starts at this cell
 pub record IsCore (frames : List ℕ) (start : ℕ) : Type 0 where
@@ -30,7 +26,7 @@ pub record IsSomeTape (frames : List ℕ) : Type 0 where
 
 -- they are neither zeros nor a core image
 abbrev pub IsPlain : List ℕ → Type 0
-IsPlain frames = (AreZeros frames → ⊥) × IsNoCore frames
+IsPlain frames = (all_zero frames ≡ false) × IsNoCore frames
 
 -- nor a tape
 abbrev pub IsNoTape : List ℕ → Type 0
@@ -38,8 +34,8 @@ IsNoTape frames = IsPlain frames × (IsSomeTape frames → ⊥) × (IsSomeRim fr
 
 -- What a file holds: the first of these that its frames are.
 abbrev pub IsKind : List ℕ → FileKind → Type 0
-IsKind frames Zeros = AreZeros frames
-IsKind frames (Core start) = (AreZeros frames → ⊥) × IsCore frames start
+IsKind frames Zeros = all_zero frames ≡ true
+IsKind frames (Core start) = (all_zero frames ≡ false) × IsCore frames start
 IsKind frames Bin = IsPlain frames × IsSomeTape frames
 IsKind frames Rim = IsPlain frames × (IsSomeTape frames → ⊥) × IsSomeRim frames
 IsKind frames Text = IsNoTape frames × (is_text frames ≡ true)

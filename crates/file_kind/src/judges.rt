@@ -4,11 +4,11 @@ ghost use Rattle.char_pack.specs.Packing.{words_of_bytes};
 ghost use Rattle.core_image.specs.Fault as core;
 ghost use Rattle.rim_tape.specs.Fault as rim;
 ghost use Rattle.rim_tape.specs.Fault.{IsSomeRim};
-ghost use Rattle.file_kind.specs.Kinds.{AreZeros, IsCore, IsNoCore, IsSomeTape};
+ghost use Rattle.file_kind.specs.Kinds.{IsCore, IsNoCore, IsSomeTape};
 
 use crate::KindFault;
-use bin_tape::TapeReader;
-use bin_tape::laws::no_fault;
+use bin_tape::laws::{first_closing, longer_tape, no_fault};
+use bin_tape::{Tape, TapeReader};
 use char_pack::{PackFault, pack};
 use core_image::CoreFault;
 use core_image::laws::one_fault as one_core_fault;
@@ -17,15 +17,8 @@ use rim_tape::laws::one_fault as one_rim_fault;
 use std::alloc::Global;
 use word12::{Cell, Word};
 
-/// Whether all frames are 0.
-pub fn are_zeros(frames: &[u8]) -> bool
-    ensures { IsTrue result ↔ AreZeros frames.now }
-{
-    frames.iter().all(|frame| *frame == 0)
-}
-
 /// Where the program of a core image starts, if frames are one.
-pub fn core_start(alloc: Global, frames: &[u8]) -> Result<Option<Cell>, KindFault>
+pub(crate) fn core_start(alloc: Global, frames: &[u8]) -> Result<Option<Cell>, KindFault>
     ensures { IfOk result (λ start. MatchOption start (IsNoCore frames.now) (IsCore frames.now)) }
 {
     let words = words_of(alloc, frames)?;
@@ -58,21 +51,29 @@ fn words_of(alloc: Global, frames: &[u8]) -> Result<Vec<Word>, KindFault>
     }
 }
 
-/// Whether frames are a BIN tape. None after the first that is refused is read.
+/// Whether frames are a BIN tape with its check sum, and whatever follows it (PAL III Symbolic Assembler manual). What follows it isn't looked
+/// at, nor what follows a frame that is refused.
 pub fn is_bin(frames: &[u8]) -> bool
     ensures { IsTrue result ↔ IsSomeTape frames.now }
 {
     no_fault();
+    longer_tape();
+    first_closing();
     let mut reader = TapeReader::new();
     for frame in frames {
-        if reader.push(*frame).is_err() {
-            return false;
+        match reader.push(*frame) {
+            Err(_) => return false,
+            Ok(tape) => match tape {
+                Tape::End => return true,
+                Tape::Nothing => {}
+                Tape::Word(_, _) => {}
+            },
         }
     }
     reader.end().is_ok()
 }
 
-/// Whether frames are a RIM tape.
+/// Whether frames are a RIM tape, and whatever follows it (Small Computer Handbook).
 pub fn is_rim(alloc: Global, frames: &[u8]) -> bool
     ensures { IsTrue result ↔ IsSomeRim frames.now }
 {

@@ -2,8 +2,8 @@ ghost use Rattle.std.specs.Prelude.{IfOk};
 ghost use Rattle.file_kind.specs.Kinds.{IsKind};
 
 use crate::KindFault;
-use crate::judges::{are_zeros, core_start, is_bin, is_rim};
-use crate::texts::is_text;
+use crate::judges::{core_start, is_bin, is_rim};
+use crate::texts::{all_zero, is_text};
 use std::alloc::Global;
 use word12::Cell;
 
@@ -34,7 +34,7 @@ pub enum FileKind {
 pub fn kind_of(alloc: Global, frames: &[u8]) -> Result<FileKind, KindFault>
     ensures { IfOk result (IsKind frames.now) }
 {
-    if are_zeros(frames) {
+    if all_zero(frames) {
         return Ok(FileKind::Zeros);
     }
     if let Some(start) = core_start(alloc, frames)? {

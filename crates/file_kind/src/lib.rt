@@ -9,5 +9,6 @@ mod kinds;
 mod texts;
 
 pub use faults::KindFault;
+pub use judges::{is_bin, is_rim};
 pub use kinds::{FileKind, kind_of};
-pub use texts::{are_marked, is_text};
+pub use texts::{all_zero, are_marked, is_graphic, is_text, is_text_character};

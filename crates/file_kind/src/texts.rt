@@ -25,7 +25,7 @@ fn all_stand(frames: &[u8]) -> bool
         if *frame == 0 {
             return all_zero(others);
         }
-        if !may_stand(character) {
+        if !is_text_character(character) {
             return false;
         }
         rest = others;
@@ -34,7 +34,7 @@ fn all_stand(frames: &[u8]) -> bool
 }
 
 /// Whether frames are all 0.
-fn all_zero(frames: &[u8]) -> bool
+pub fn all_zero(frames: &[u8]) -> bool
     ensures { result ≡ spec.all_zero frames.now }
 {
     let mut rest = frames;
@@ -65,15 +65,16 @@ fn has_graphic(frames: &[u8]) -> bool
     false
 }
 
-/// Whether a character may stand in a text: it is graphic or a blank, or BEL, TAB, LF, VT, FF, CR or a rubout.
-fn may_stand(character: u8) -> bool
-    ensures { result ≡ spec.may_stand character }
+/// Whether a character, without its top bit, may stand in a text: it is graphic or a blank, or BEL, TAB, LF, VT, FF, CR or a rubout (this
+/// project's profile).
+pub fn is_text_character(character: u8) -> bool
+    ensures { result ≡ spec.is_text_character character }
 {
     matches!(character, 0o07 | 0o11..=0o15 | 0o40..=0o177)
 }
 
-/// Whether a character is seen.
-fn is_graphic(character: u8) -> bool
+/// Whether a character, without its top bit, is seen.
+pub fn is_graphic(character: u8) -> bool
     ensures { result ≡ spec.is_graphic character }
 {
     matches!(character, 0o41..=0o176)

@@ -245,8 +245,7 @@ gives-each form blocks is_told all done are_there (one ∷ wishes) =
 
 ends-quiet : (is_told : Bool) (old new : List Event) → EndsProgress is_told old new → Quiet old new
 ends-quiet false old new p = quiet old p (nothing old)
-ends-quiet true old new (inl p) = quiet old p (nothing old)
-ends-quiet true old new (inr p) = quiet old p.1 (printed old _ (λ path. refl) refl)
+ends-quiet true old new p = quiet old p.1 (printed old _ (λ path. refl) refl)
 
 begins-quiet : (is_told : Bool) (old new : List Event) → BeginsProgress is_told old new → Quiet old new
 begins-quiet true old new p = quiet old p.1 (record { files = λ path. refl; reads = refl })

@@ -21,8 +21,7 @@ begins-never false old new (inr p) = same _ new p
 
 pub ends-never : (is_told : Bool) (old new : List Event) → EndsProgress is_told old new → ChangesNothing old new
 ends-never false old new p = same old new p
-ends-never true old new (inl p) = same old new p
-ends-never true old new (inr p) = same _ new p.1
+ends-never true old new p = same _ new p.1
 
 pub with-progress-never : {A : Type 0} (work : Bool → List Event → Result A Ending → List Event → Type 0) → ((is_told : Bool) → KeepsFiles (work is_told)) → KeepsFiles (WithProgress work)
 with-progress-never work n old result new p = λ path. ends-never p.is_told p.done new p.ends path ∙ (n p.is_told p.begun result p.done p.works path ∙ begins-never p.is_told old p.begun p.begins path)

@@ -1,5 +1,5 @@
 -- How far a long command is, which is printed at a terminal. No line of its work depends on it.
-use Rattle.std.specs.Prelude.{◌≡◌, ◌≤◌, ◌⊎◌, ℕ, zero, suc, Bool, true, false, Result, List, [], ◌∷◌, ◌++◌, codes, decimal}
+use Rattle.std.specs.Prelude.{◌≡◌, ◌≤◌, ◌⊎◌, ℕ, Bool, true, false, Result, List, [], ◌∷◌, ◌++◌, codes, decimal}
 use Rattle.hosts.specs.Event.{Event, terminal_call, seconds_call, tell_call}
 use Rattle.hosts.specs.Streams.{errors}
 use Rattle.outcome.specs.declared.endings.Ending.{Ending}
@@ -29,16 +29,10 @@ TellsOnce last now old new = ((now ≡ last) × (errors new ≡ errors old))
 abbrev pub TellsProgress : Bool → ℕ → ℕ → List Event → Result (Unit {0}) Ending → List Event → Type 0
 TellsProgress is_told done all old result new = IsDone result × TellsDone is_told done all old new
 
--- what was printed of progress is taken away
+-- what was printed of progress is taken away, or nothing where nothing was
 abbrev pub EndsProgress : Bool → List Event → List Event → Type 0
 EndsProgress false old new = new ≡ old
-EndsProgress true old new = (new ≡ old) ⊎ ((ok : Bool) × (new ≡ tell_call ok (0o33 ∷ codes "[K") ∷ old))
-
--- just that, by the second in which progress was printed last, or 0
-abbrev pub EndsPrinted : Bool → ℕ → List Event → List Event → Type 0
-EndsPrinted false last old new = new ≡ old
-EndsPrinted true zero old new = new ≡ old
-EndsPrinted true (suc last) old new = (ok : Bool) × (new ≡ tell_call ok (0o33 ∷ codes "[K") ∷ old)
+EndsProgress true old new = (ok : Bool) × (new ≡ tell_call ok (0o33 ∷ codes "[K") ∷ old)
 
 -- a work of so many things whose progress may be printed
 pub record WithProgress {A : Type 0} (work : Bool → List Event → Result A Ending → List Event → Type 0) (old : List Event) (result : Result A Ending) (new : List Event) : Type 0 where

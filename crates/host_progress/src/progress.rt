@@ -1,6 +1,6 @@
 //! How far a long command is: printed on a terminal whose owner sees no line of it, since standard output goes elsewhere.
 ghost use Rattle.std.specs.Prelude.{◌≡◌};
-ghost use Rattle.host_progress.specs.Progressing.{BeginsProgress, EndsPrinted, EndsProgress, TellsDone, TellsOnce};
+ghost use Rattle.host_progress.specs.Progressing.{BeginsProgress, EndsProgress, TellsDone, TellsOnce};
 
 use hosts::{Host, Stream};
 use refusals::text_lines::{TextLine, put, put_number};
@@ -63,12 +63,11 @@ impl Progress {
         }
     }
 
-    /// Takes away what was printed.
+    /// Takes away what was printed, or the nothing that stands there.
     pub fn end<H: Host>(&self, host: &mut H)
-        ensures ends { EndsProgress self.now.is_told (H.history host.old) (H.history host.new) }
-        ensures printed { EndsPrinted self.now.is_told self.now.last (H.history host.old) (H.history host.new) }
+        ensures { EndsProgress self.now.is_told (H.history host.old) (H.history host.new) }
     {
-        if self.is_told && self.last > 0 {
+        if self.is_told {
             let _ = host.tell("\x1b[K");
         }
     }

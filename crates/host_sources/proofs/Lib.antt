@@ -1,4 +1,3 @@
-pub mod ShapeLemmas
 pub mod PauseLemmas
 pub mod LocateLemmas
 pub mod ReadingLemmas

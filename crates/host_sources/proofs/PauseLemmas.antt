@@ -2,7 +2,7 @@
 use Rattle.std.proofs.Common.{◌≡◌, ℕ, ◌+◌, ◌≤◌, ◌<◌, nat_eq, Bool, true, false, ◌&&◌, ◌||◌, not, if◌then◌else◌, Some, None, Result, Ok, Err, suc, length, take, drop, get_or, List, [], ◌∷◌, ◌++◌, refl, ap, sym, subst, ◌∙◌, arith}
 use Rattle.std.proofs.lemmas.Bool.Decides.{nat_tests}
 use Rattle.std.proofs.lemmas.List.{take_all, take-append-drop}
-use Rattle.pal_lex.specs.Text.{is_ignored, in_comment, is_dead, is_end, is_over, ends_statement, stretch, up_to_end, text_from, text_of, line_after}
+use Rattle.pal_lex.specs.Text.{in_comment, is_dead, is_end, is_over, ends_statement, stretch, up_to_end, text_from, text_of, line_after}
 use Rattle.pal_lex.specs.Statements.{statements, first_fault, judge_statement, radix_after}
 use Rattle.pal_lex.specs.Joins.{is_pause, pauses, IsClear, first_text, before_pause}
 use Rattle.pal_lex.specs.Laws.{PauseIsBad}
@@ -15,62 +15,16 @@ use Rattle.source_places.proofs.PlaceLemmas.{next_byte}
 use Rattle.host_sources.specs.Steps.{is_memory, end_by, Meets, is_pause_met, ends_text, Renews, IsPrefix}
 use Rattle.host_sources.specs.declared.pauses.Met.{Met}
 use Rattle.host_sources.specs.declared.pauses.Met.TheVariants.{Nothing, End, Pause}
-use Rattle.host_sources.proofs.ShapeLemmas.{bare_bytes, same_pause}
-
--- ## A text up to its last end
-
--- what holds of the empty text, and of each that a live end is the newest byte of
-by_end : (P : List ℕ → Type 0) → P [] → ((b : ℕ) (older : List ℕ) → is_dead older b ≡ false → is_end b ≡ true → P (b ∷ older)) → (text : List ℕ) → P (up_to_end text)
-by_end P none some [] = none
-by_end P none some (b ∷ older) = step b older (is_dead older b) (is_end b) refl refl (by_end P none some older)
-  where
-    step : (b : ℕ) (older : List ℕ) (dead end : Bool) → is_dead older b ≡ dead → is_end b ≡ end → P (up_to_end older) → P (up_to_end (b ∷ older))
-    step b older true end d e before = let same : up_to_end (b ∷ older) ≡ up_to_end older = rw d refl in subst P (sym same) before
-    step b older false true d e before = let same : up_to_end (b ∷ older) ≡ b ∷ older = rw (d, e) refl in subst P (sym same) (some b older d e)
-    step b older false false d e before = let same : up_to_end (b ∷ older) ≡ up_to_end older = rw (d, e) refl in subst P (sym same) before
-
-or_right : (a b : Bool) → (a || b) ≡ false → b ≡ false
-or_right true b e = cc
-or_right false b e = e
-
-ended_comment : (text : List ℕ) → in_comment (up_to_end text) ≡ false
-ended_comment text = by_end (λ t. in_comment t ≡ false) refl (λ b older d e. or_right (is_ignored b) (in_comment (b ∷ older)) d) text
-
-ended_stretch : (text : List ℕ) → stretch (up_to_end text) ≡ []
-ended_stretch text = by_end (λ t. stretch t ≡ []) refl (λ b older d e. rw (d, e) refl) text
-
-clear_comment : (text : List ℕ) → up_to_end text ≡ text → in_comment text ≡ false
-clear_comment text e = sym (ap in_comment e) ∙ ended_comment text
-
-clear_stretch : (text : List ℕ) → up_to_end text ≡ text → stretch text ≡ []
-clear_stretch text e = sym (ap stretch e) ∙ ended_stretch text
+use Rattle.pal_lex.proofs.JoinLemmas.{bytes_joined, clear_comment, clear_stretch, dead_joined}
+use Rattle.pal_lex.proofs.ShapeLemmas.{same_pause}
 
 -- ## A text after one that ends after a statement
-
-comment_joined : (here before : List ℕ) → in_comment before ≡ false → in_comment (here ++ before) ≡ in_comment here
-comment_joined [] before quiet = quiet
-comment_joined (b ∷ here) before quiet = ap (λ (c : Bool). if nat_eq b 13 then false else (if nat_eq b 47 then true else c)) (comment_joined here before quiet)
-
-dead_joined : (here before : List ℕ) (b : ℕ) → in_comment before ≡ false → is_dead (here ++ before) b ≡ is_dead here b
-dead_joined here before b quiet = ap (λ (c : Bool). is_ignored b || c) (comment_joined (b ∷ here) before quiet)
 
 over_joined : (here before : List ℕ) → in_comment before ≡ false → is_over before ≡ false → is_over (here ++ before) ≡ is_over here
 over_joined [] before quiet going = going
 over_joined (b ∷ here) before quiet going =
     ap (λ (o : Bool). o || (nat_eq b 36 && not (is_dead (here ++ before) b))) (over_joined here before quiet going)
     ∙ ap (λ (d : Bool). is_over here || (nat_eq b 36 && not d)) (dead_joined here before b quiet)
-
-bytes_by : (dead end : Bool) (b place other : ℕ) (live same : List (ℕ × ℕ)) → bare_bytes live ≡ bare_bytes same
-    → bare_bytes (if dead then live else (if end then [] else (b, place) ∷ live)) ≡ bare_bytes (if dead then same else (if end then [] else (b, other) ∷ same))
-bytes_by true end b place other live same e = e
-bytes_by false true b place other live same e = refl
-bytes_by false false b place other live same e = ap (λ l. b ∷ l) e
-
-bytes_joined : (here before : List ℕ) → in_comment before ≡ false → stretch before ≡ [] → bare_bytes (stretch (here ++ before)) ≡ bare_bytes (stretch here)
-bytes_joined [] before quiet none = ap bare_bytes none
-bytes_joined (b ∷ here) before quiet none =
-    ap (λ (d : Bool). bare_bytes (if d then stretch (here ++ before) else (if is_end b then [] else (b, length (here ++ before)) ∷ stretch (here ++ before)))) (dead_joined here before b quiet)
-    ∙ bytes_by (is_dead here b) (is_end b) b (length (here ++ before)) (length here) (stretch (here ++ before)) (stretch here) (bytes_joined here before quiet none)
 
 ends_joined : (here before : List ℕ) (b : ℕ) → in_comment before ≡ false → is_over before ≡ false → ends_statement (here ++ before) b ≡ ends_statement here b
 ends_joined here before b quiet going =

@@ -1,9 +1,9 @@
 -- Dates that a volume shows as those of other years.
-use Rattle.std.specs.Prelude.{◌≡◌, ℕ, ◌/◌, ◌%◌, ◌&&◌, ◌++◌, nat_eq, nat_le, Bool, true, false, if◌then◌else◌, codes, decimal, Option, None, Some, Result, Ok, Err, List, [], ◌∷◌, length}
+use Rattle.std.specs.Prelude.{◌≡◌, ℕ, ◌&&◌, ◌++◌, nat_eq, nat_le, Bool, true, false, if◌then◌else◌, codes, decimal, Option, None, Some, Result, Ok, Err, List, [], ◌∷◌, length}
 use Rattle.hosts.specs.Event.{Event, tell_call}
-use Rattle.word12.specs.Octal.{octal4}
 use Rattle.volume_image.specs.Image.{block_word}
 use Rattle.os8_dates.specs.Dates.{date_in, last_year}
+use Rattle.os8_dates.specs.Spelling.{or_octal}
 use Rattle.os8_dates.specs.declared.dates.Date.{Date}
 use Rattle.os8_dates.specs.declared.years.TheConstants.{LAST_YEAR, LEAST_LAST}
 use Rattle.archive_many.specs.Opened.{OpensVolume}
@@ -21,18 +21,8 @@ last_for year = if nat_le LEAST_LAST year && nat_le year LAST_YEAR then year els
 
 -- ## The text
 
--- the year, the month and the day in digits, with `-` between
-abbrev pub date_digits : ℕ → ℕ → ℕ → List ℕ
-date_digits year month day =
-    decimal year ++ codes "-" ++ decimal (month / 10) ++ decimal (month % 10) ++ codes "-" ++ decimal (day / 10) ++ decimal (day % 10)
-
--- a date, or where a word is none its octal digits
-abbrev pub date_text : Option Date → ℕ → List ℕ
-date_text None word = octal4 word
-date_text (Some date) word = date_digits date.year date.month date.day
-
 abbrev pub year_hint : ℕ → Option Date → Option Date → ℕ → List ℕ
-year_hint word wanted shown own = date_text wanted word ++ (codes " is shown as " ++ (date_text shown word ++ (codes ": --year " ++ (decimal own ++ codes " shows it so"))))
+year_hint word wanted shown own = or_octal wanted word ++ (codes " is shown as " ++ (or_octal shown word ++ (codes ": --year " ++ (decimal own ++ codes " shows it so"))))
 
 -- ## What is printed
 

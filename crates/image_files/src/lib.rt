@@ -39,7 +39,10 @@ pub use notes::{refuse_image, tell_note};
 pub use pairs::{is_one_image, refuse_one};
 pub use places::{keep_apart, tell_pair};
 pub use printing::{print, report, store};
-pub use reading::{ImagePlace, look_at, look_file, one_volume_in, script_volume_in, volume_in};
+pub use reading::{
+    ImagePlace, hold, look, look_at, look_file, one_volume_in, script_volume_in, volume_in,
+};
 pub use reasons::{tell_fault, tell_first, tell_reason};
+pub use saving::write_file;
 pub use states::{ChangeState, ImageNotes};
 pub use years::{note_files, note_year};

@@ -35,7 +35,7 @@ pub struct ImagePlace {
 
 /// Holds an image file, unless it may not be written. Why it can't be held otherwise is printed. No file changes.
 #[tactic(auto, unfolding(crate::specs::Reading::IsUnheldImage))]
-pub(crate) fn hold<H: Host>(host: &mut H, alloc: Global, name: &str) -> Result<ImagePlace, Ending>
+pub fn hold<H: Host>(host: &mut H, alloc: Global, name: &str) -> Result<ImagePlace, Ending>
     ensures { Holds name.now (H.history host.old) result (H.history host.new) }
 {
     let shown = String::from_str(alloc, name)?;
@@ -82,7 +82,7 @@ pub(crate) fn tell_of_lock<H: Host>(host: &mut H, content: Content, has_lock: bo
 }
 
 /// The bytes of an image file that is held, or of one that is only looked at.
-pub(crate) fn look<H: Host>(
+pub fn look<H: Host>(
     host: &mut H,
     alloc: Global,
     place: &ImagePlace,

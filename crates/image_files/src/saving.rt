@@ -20,7 +20,7 @@ const DIRECTORY: usize = FIRST_FILE_BLOCK * BLOCK * 2;
 /// Has the held file of a path, which is for this, hold these bytes: whole or not at all, or in its place, which a note says before. A note after that says
 /// where it isn't known whether a crash keeps them. Where it can't be done, the fault is printed on standard error, for which alone memory is
 /// taken.
-pub(crate) fn write_file<H: Host>(
+pub fn write_file<H: Host>(
     host: &mut H,
     alloc: Global,
     content: Content,

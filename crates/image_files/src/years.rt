@@ -1,5 +1,6 @@
 //! Dates that a volume shows as those of other years.
 ghost use Rattle.std.specs.Prelude.{◌≡◌, ◌≤◌, ◌++◌, codes, decimal, IfOk};
+ghost use Rattle.os8_dates.specs.Spelling.{or_octal};
 ghost use Rattle.os8_dates.specs.declared.years.TheConstants.{LAST_YEAR, LEAST_LAST};
 ghost use Rattle.image_files.specs.Years as spec;
 ghost use Rattle.image_files.specs.Years.{NotesFiles, NotesGiven, NotesYear, TellsDate, TellsFiles, TellsHint, TellsShown, TellsUnless};
@@ -201,24 +202,10 @@ fn hint_text(alloc: Global, given: &str, shown: &str, own: u16) -> Result<String
 
 /// A date in digits, or where it is none the word in octal.
 fn date_text(alloc: Global, date: Option<Date>, word: Word) -> Result<String, AllocError>
-    ensures { IfOk result (λ text. text.bytes.items ≡ spec.date_text date word) }
+    ensures { IfOk result (λ text. text.bytes.items ≡ or_octal date word) }
 {
     match date {
         None => format!(in alloc; "{word}"),
-        Some(date) => digits_text(alloc, date.year, date.month, date.day),
+        Some(date) => format!(in alloc; "{date}"),
     }
-}
-
-fn digits_text(alloc: Global, year: u16, month: u8, day: u8) -> Result<String, AllocError>
-    ensures { IfOk result (λ text. text.bytes.items ≡ spec.date_digits year month day) }
-{
-    let text = format!(in alloc;
-        "{}-{}{}-{}{}",
-        year,
-        month / 10,
-        month % 10,
-        day / 10,
-        day % 10
-    )?;
-    Ok(text)
 }

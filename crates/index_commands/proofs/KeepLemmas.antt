@@ -119,8 +119,7 @@ begins-keeps path false old new (inr p) = same path p
 
 ends-keeps : (path : List ℕ) (is_told : Bool) (old new : List Event) → EndsProgress is_told old new → about path new ≡ about path old
 ends-keeps path false old new p = same path p
-ends-keeps path true old new (inl p) = same path p
-ends-keeps path true old new (inr (ok, p)) = same path p
+ends-keeps path true old new (ok, p) = same path p
 
 images-keeps : LooksKeep → PrintsKeep → (columns : Columns) (style : IndexStyle) (reading : ImageReading) (is_told : Bool) (done all : ℕ) (names : List (List ℕ)) (is_refused : Bool) (kept : List ℕ)
     → KeepsFiles (IndexesImages columns style reading is_told done all names is_refused kept)

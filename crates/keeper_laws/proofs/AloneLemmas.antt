@@ -1,28 +1,27 @@
 -- One file alone is touched, and none is left beside it.
-use Rattle.std.proofs.Common.{◌≡◌, ◌∙◌, Bool, false, List, ℕ, inr, refl, sym, ap, subst}
-use Rattle.std.specs.Str.{bytes_eq}
+use Rattle.std.proofs.Common.{◌≡◌, ◌∙◌, List, ℕ, inr, refl, sym, subst}
 use Rattle.hosts.specs.Event.{Event}
-use Rattle.hosts.specs.Place.{Place, Step, about, replay}
-use Rattle.hosts.specs.Saving.{ClearsBeside, IsClear}
+use Rattle.hosts.specs.Place.{Step, about}
+use Rattle.hosts.specs.Saving.{ClearsBeside}
 use Rattle.image_files.specs.Saving.{TouchesOnly}
-use Rattle.keeper_laws.specs.Changed.{TouchesAlone}
+use Rattle.keeper_laws.specs.Changed.{ChangesNoOther}
 
 -- each file is as it was
 abbrev pub AreSame : List Event → List Event → Type 0
 AreSame old new = (path : List ℕ) → about path new ≡ about path old
 
-pub alone-only : (path : List ℕ) (old new : List Event) → TouchesOnly path old new → TouchesAlone path old new
+pub alone-only : (path : List ℕ) (old new : List Event) → TouchesOnly path old new → ChangesNoOther path old new
 alone-only path old new only = record { others = only.others; beside = only.beside }
 
 -- after what changes nothing
-pub alone-after : (path : List ℕ) (old mid new : List Event) → AreSame old mid → TouchesAlone path mid new → TouchesAlone path old new
+pub alone-after : (path : List ℕ) (old mid new : List Event) → AreSame old mid → ChangesNoOther path mid new → ChangesNoOther path old new
 alone-after path old mid new same a = record {
   others = λ other apart. a.others other apart ∙ same other;
   beside = subst (λ (s : List Step). ClearsBeside s (about path new)) (same path) a.beside;
 }
 
 -- before what changes nothing
-pub alone-before : (path : List ℕ) (old mid new : List Event) → AreSame mid new → TouchesAlone path old mid → TouchesAlone path old new
+pub alone-before : (path : List ℕ) (old mid new : List Event) → AreSame mid new → ChangesNoOther path old mid → ChangesNoOther path old new
 alone-before path old mid new same a = record {
   others = λ other apart. same other ∙ a.others other apart;
   beside = subst (λ (s : List Step). ClearsBeside (about path old) s) (sym (same path)) a.beside;
@@ -32,12 +31,12 @@ clear-still : (steps : List Step) → ClearsBeside steps steps
 clear-still steps start = inr (inr (refl, refl))
 
 -- nothing is touched
-pub alone-none : (path : List ℕ) (old new : List Event) → AreSame old new → TouchesAlone path old new
+pub alone-none : (path : List ℕ) (old new : List Event) → AreSame old new → ChangesNoOther path old new
 alone-none path old new same = record {
   others = λ other apart. same other;
   beside = subst (λ (s : List Step). ClearsBeside (about path old) s) (sym (same path)) (clear-still (about path old));
 }
 
 -- the same of a path that is another's
-pub alone-at : (path other : List ℕ) (old new : List Event) → path ≡ other → TouchesAlone other old new → TouchesAlone path old new
-alone-at path other old new is = subst (λ (p : List ℕ). TouchesAlone p old new) (sym is)
+pub alone-at : (path other : List ℕ) (old new : List Event) → path ≡ other → ChangesNoOther other old new → ChangesNoOther path old new
+alone-at path other old new is = subst (λ (p : List ℕ). ChangesNoOther p old new) (sym is)

@@ -1,5 +1,5 @@
 -- A file that was stored is got again of the image file as it was left.
-use Rattle.std.proofs.Common.{◌≡◌, ◌∙◌, ℕ, Result, Ok, Err, List, length, ap, subst, inl, inr}
+use Rattle.std.proofs.Common.{◌∙◌, ℕ, Result, Ok, Err, List, length, ap, subst, inl, inr}
 use Rattle.std.specs.Global.{Vec}
 use Rattle.hosts.specs.Event.{Event}
 use Rattle.archive_files.specs.declared.forms.GetForm.{GetForm}

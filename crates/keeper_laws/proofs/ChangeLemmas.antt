@@ -1,5 +1,5 @@
 -- The commands that change the volume in an image file and read nothing else.
-use Rattle.std.proofs.Common.{◌≡◌, ◌∙◌, ◌⊎◌, ℕ, Bool, true, false, Option, None, Some, Result, Ok, List, [], ap, refl, subst, inl, inr, length, map, true≢false}
+use Rattle.std.proofs.Common.{◌≡◌, ◌∙◌, ◌⊎◌, ℕ, Bool, true, false, Option, None, Some, Result, Ok, List, [], ap, refl, subst, inl, inr, length, map}
 use Rattle.std.specs.Global.{Vec}
 use Rattle.hosts.specs.Event.{Event}
 use Rattle.hosts.specs.Streams.{output}
@@ -14,6 +14,7 @@ use Rattle.archive_files.specs.declared.faults.DeleteFault.TheVariants.{Archive,
 use Rattle.archive_files.specs.declared.faults.RenameFault.{RenameFault}
 use Rattle.archive_files.specs.declared.faults.RenameFault.TheVariants as rename
 use Rattle.archive_many.specs.Opened.{OpensVolume}
+use Rattle.archive_many.specs.Wishing.{by_place, first_unfound, found_files}
 use Rattle.archive_many.specs.declared.wishes.Wish.{Wish}
 use Rattle.archive_many.specs.declared.wishes.Wish.TheVariants as wish
 use Rattle.program_reports.specs.Program.{program_line}
@@ -27,11 +28,11 @@ use Rattle.image_files.specs.Reading.{Opens}
 use Rattle.image_files.specs.Saving.{Stores}
 use Rattle.image_files.specs.Work.{Follows, Then, Purely}
 use Rattle.image_files.specs.declared.images.Image.{Image}
-use Rattle.asked_files.specs.Asking.{AreNamed, wanted_files}
+use Rattle.asked_files.specs.Asking.{AreNamed}
 use Rattle.change_commands.specs.Changing.{Changes, GivesName, RefusesName, Renames, Squeezes}
 use Rattle.change_commands.specs.Choosing.{AreWished, FindsAll, MeansFiles, MeansIf, RefusesWish, TellsRefused, one_of_several, word_at, words_in}
 use Rattle.change_commands.specs.Deleting.{Deletes, RefusesFile, TakesMeant, TakesOut, deleted_lines}
-use Rattle.keeper_laws.specs.Changes.{DeletesMeant, HasChanged, HasDeleted, HasRenamed, HasSqueezed}
+use Rattle.keeper_laws.specs.Changes.{AreFound, AreMeant, DeletesMeant, HasChanged, HasDeleted, HasRenamed, HasSqueezed}
 use Rattle.keeper_laws.specs.Ended.{EndsAs}
 use Rattle.keeper_laws.proofs.OpenLemmas.{FindsSaved, FindsUnsaved, HasOpened, has-opened, still}
 use Rattle.keeper_laws.proofs.RefuseLemmas.{IsRefused, OnlyRefuses, answers-refuse, answers-silent, ends-so, lines-refuse, opens-refuses, purely-silent, reaches, refused-after, refuses-refused, then-refuses}
@@ -166,14 +167,25 @@ means-still true form image old files new (inr it) = wished it.after ∙ it.done
     wished (inr w) = w.after.2 ∙ w.done.1
 means-still false form image old files new p = p.1
 
-means-named : (is : Bool) (form : DeleteForm) (image : List ℕ) (old : List Event) (files : Vec Asked) (new : List Event) → MeansIf is form image old (Ok files) new → is ≡ false → map target_of files.items ≡ wanted_files form
-means-named true form image old files new p never = absurd (true≢false never)
-means-named false form image old files new p plain = p.0
+-- and they are those that are meant
+means-meant : (is : Bool) (form : DeleteForm) (image : List ℕ) (old : List Event) (files : Vec Asked) (new : List Event) → MeansIf is form image old (Ok files) new → AreMeant is form image (map target_of files.items)
+means-meant true form image old files new (inl ends) = absurd ends
+means-meant true form image old files new (inr it) = chosen it.after
+  where
+    chosen : Then (Purely (AreWished form it.given)) (λ wishes. FindsAll form wishes.items) it.between (Ok files) new → AreFound form image (map target_of files.items)
+    chosen (inl ends) = absurd ends
+    chosen (inr w) = record {
+      blocks = it.given;
+      opens = it.done.0;
+      all = subst (λ (wishes : List Wish). first_unfound wishes ≡ None) w.done.0 w.after.0;
+      are = w.after.1 ∙ ap (λ (wishes : List Wish). map by_place (found_files wishes)) w.done.0;
+    }
+means-meant false form image old files new p = p.0
 
 meant-still : (form : DeleteForm) (image : List ℕ) → GivesStill (DeletesMeant form image) (TakesMeant form image)
 meant-still form image old made new (inl ends) = absurd ends
 meant-still form image old made new (inr it) = (
-  (map target_of it.given.items, means-named (has_pattern (words_in form)) form image old it.given it.between it.done, it.after.0),
+  (map target_of it.given.items, means-meant (has_pattern (words_in form)) form image old it.given it.between it.done, it.after.0),
   it.after.1 ∙ means-still (has_pattern (words_in form)) form image old it.given it.between it.done,
 )
 

@@ -1,242 +1,263 @@
--- A file that is copied from one image file to another.
-use Rattle.std.proofs.Common.{◌≡◌, ◌∙◌, ◌⊎◌, ℕ, Bool, true, false, Option, Result, Ok, List, [], ◌∷◌, refl, sym, ap, subst, inl, inr, length}
+-- Files that are copied from one image file to another.
+use Rattle.std.proofs.Common.{◌≡◌, ◌∙◌, ◌⊎◌, ℕ, Bool, true, false, Option, None, Some, Result, Ok, Err, List, [], ◌∷◌, ◌++◌, ap, refl, subst, inl, inr, length, map, slice_get}
 use Rattle.std.specs.Global.{Vec}
-use Rattle.hosts.specs.Event.{Event, look_call}
-use Rattle.hosts.specs.Streams.{errors, output}
-use Rattle.disk_layouts.specs.declared.layouts.Layout.{Layout}
-use Rattle.image_kind.specs.Keeping.{two_readings}
-use Rattle.image_kind.specs.Margins.{body_of}
-use Rattle.image_kind.specs.Volumes.{volumes_in}
-use Rattle.image_kind.specs.declared.volumes.Volumes.{Volumes}
-use Rattle.image_kind.specs.declared.volumes.Volumes.TheVariants.{One, Both}
-use Rattle.image_kind.specs.Lines.{mended_lines}
+use Rattle.hosts.specs.Event.{Event, look_call, tell_call}
+use Rattle.hosts.specs.Streams.{output}
+use Rattle.refusals.specs.declared.faults.SessionFault.TheVariants as session
 use Rattle.archive_files.specs.Asking.{Target, target_of}
-use Rattle.archive_files.specs.Copying.{CopiesFile}
 use Rattle.archive_files.specs.declared.faults.ArchiveFault.{ArchiveFault}
-use Rattle.archive_files.specs.declared.faults.CopyFault.{CopyFault}
-use Rattle.archive_files.specs.declared.faults.CopyFault.TheVariants.{From, To}
-use Rattle.archive_files.specs.declared.putting.NewImage.{NewImage}
-use Rattle.archive_many.specs.Cutting.{CutsFile}
+use Rattle.archive_files.specs.declared.faults.ArchiveFault.TheVariants.{Refused}
+use Rattle.archive_files.specs.declared.faults.CopyFault.TheVariants as one
+use Rattle.archive_many.specs.Copying.{CopiesAll}
+use Rattle.archive_many.specs.Cutting.{CutsFiles}
+use Rattle.archive_many.specs.Opened.{OpensVolume, files_on}
+use Rattle.archive_many.specs.Wishing.{first_unfound, found_files, wishes_of}
+use Rattle.archive_many.specs.declared.faults.CopyAllFault.{CopyAllFault}
+use Rattle.archive_many.specs.declared.faults.CopyAllFault.TheVariants as copying
 use Rattle.archive_many.specs.declared.opened.VolumeFile.{VolumeFile}
+use Rattle.archive_many.specs.declared.wishes.Wish.{Wish}
+use Rattle.archive_many.specs.declared.wishes.Wish.TheVariants as wish
+use Rattle.outcome.specs.Notes.{name_text}
 use Rattle.outcome.specs.declared.endings.Ending.{Ending}
+use Rattle.outcome.specs.declared.notes.NameNote.TheVariants as note
+use Rattle.program_tasks.specs.declared.forms.CopyChoice.{CopyChoice}
+use Rattle.program_tasks.specs.declared.forms.CopyChoice.TheVariants.{One, Like}
 use Rattle.program_tasks.specs.declared.forms.CopyForm.{CopyForm}
 use Rattle.program_tasks.specs.declared.forms.ImageForm.{ImageForm}
 use Rattle.image_files.specs.Answers.{Answers, AreLines}
-use Rattle.image_files.specs.Judging.{Judges}
-use Rattle.image_files.specs.Laws.{LeavesFiles, is_refusal}
-use Rattle.image_files.specs.Mending.{Mends, TellsLines}
-use Rattle.image_files.specs.Pairs.{RefusesIf, is_one_image, is_want_of}
-use Rattle.image_files.specs.Reading.{FindsIn, FindsOne, IsJudged, JudgesLooked, Looks, LooksAt, LooksIf, LooksImage, Opens, reading_of}
+use Rattle.image_files.specs.Laws.{KeepsFiles, LeavesFiles, is_refusal}
+use Rattle.image_files.specs.Pairs.{IsOneRefused, RefusesIf, is_one_image, is_want_of}
+use Rattle.image_files.specs.Reading.{LooksAt, Opens}
 use Rattle.image_files.specs.Saving.{Stores}
-use Rattle.image_files.specs.Work.{Follows, Then, Purely}
+use Rattle.image_files.specs.Work.{Then, Purely}
 use Rattle.image_files.specs.declared.images.Image.{Image}
-use Rattle.image_files.specs.declared.mending.ImageReading.{ImageReading}
-use Rattle.change_commands.specs.Copying.{Copies, CopiesFrom, CopiesInto, MakesCopy, RefusesCopy, TellsCopy, copied_lines, new_name}
-use Rattle.keeper_laws.specs.Changed.{warnings}
-use Rattle.keeper_laws.specs.Copied.{HasCopied, IsSource}
-use Rattle.keeper_laws.specs.Ended.{EndsAs}
-use Rattle.keeper_laws.proofs.OpenLemmas.{FindsSaved, FindsUnsaved, HasOpened, IsQuiet, after-note, equal, has-opened, judged, quiet-then, still}
-use Rattle.keeper_laws.proofs.RefuseLemmas.{IsRefused, OnlyRefuses, answers-refuse, answers-silent, ends-so, judges-by, judges-silent, lines-refuse, looks-refuses, no-volume, opens-refuses, reaches, refused-after, refuses-refused, then-refuses}
-use Rattle.keeper_laws.proofs.PrepareLemmas.{made-or-refused}
-use Rattle.keeper_laws.proofs.StoreLemmas.{IsReady, by-store}
+use Rattle.image_files.proofs.KeepLemmas.{looks-at-keeps}
+use Rattle.image_files.proofs.LeaveLemmas.{opens-never, stores-leaves, then-leaves}
+use Rattle.change_commands.specs.Copying.{Copies, CopiesFrom, CopiesInto, FindsAll, FindsChosen, FindsFiles, FindsLike, FindsOne, OpensFrom, PutsFiles, TellsCopies, may_replace, new_name, stored_lines}
+use Rattle.change_commands.specs.Refusing.{RefusesCopies, RefusesWish, TellsFile, TellsWord}
+use Rattle.asked_files.specs.Wishing.{AreWished}
+use Rattle.keeper_laws.specs.Changed.{GetsVolume}
+use Rattle.keeper_laws.specs.Copied.{AreChosen, AreLike, HasCopied, IsSource}
+use Rattle.keeper_laws.specs.Ended.{DoesNothing, EndsAs}
+use Rattle.keeper_laws.proofs.OpenLemmas.{FindsSaved, FindsUnsaved, IsQuiet, still}
+use Rattle.keeper_laws.proofs.RefuseLemmas.{ends-so}
+use Rattle.keeper_laws.proofs.SeenLemmas.{at-refuses, seen-at}
+use Rattle.keeper_laws.proofs.PrepareLemmas.{IsRejected, Prepared, Prepares, Rejects, answers-reject, lines-reject, noted, nothing, nothing-then, prepared-after, prepared-ends, prepares-then, refuses-rejected, rejects-by, then-rejects}
 
--- ## The other image file
+-- ## Why they are refused
 
--- one call read it, and nothing was written
-pub record IsSeen (name : List ℕ) (old new : List Event) : Type 0 where
-  pub bytes : List ℕ
-  pub quiet : IsQuiet (look_call name bytes ∷ []) old new
+refused-if : (is : Bool) (name : List ℕ) (fault : ArchiveFault) (size : ℕ) (old : List Event) (ending : Ending) (new : List Event) → RefusesIf is name fault size old ending new → (is_refusal ending ≡ true) × DoesNothing old new
+refused-if true name fault size old ending new p = refuses-rejected fault size old ending new p
+refused-if false name fault size old ending new (ok, p) =
+    let r = refuses-rejected fault size (tell_call ok (name_text note.Refuses name) ∷ old) ending new p in
+    (r.0, nothing-then old (tell_call ok (name_text note.Refuses name) ∷ old) new (noted ok (name_text note.Refuses name) old (tell_call ok (name_text note.Refuses name) ∷ old) refl) r.1)
 
-seen-then : (name : List ℕ) (old mid new : List Event) → IsSeen name old mid → IsQuiet [] mid new → IsSeen name old new
-seen-then name old mid new s quiet = record { bytes = s.bytes; quiet = quiet-then (look_call name s.bytes ∷ []) [] old mid new s.quiet quiet }
+one-rejected : (name : List ℕ) (fault : ArchiveFault) (size : ℕ) (old : List Event) (ending : Ending) (new : List Event) → IsOneRefused name fault size old ending new → (is_refusal ending ≡ true) × DoesNothing old new
+one-rejected name fault size old ending new (inl p) = refused-if (is_want_of fault) name fault size old ending new p
+one-rejected name fault size old ending new (inr p) = (ends-so ending _ p.0 refl, nothing old new p.1)
 
-seen : (name : List ℕ) (old : List Event) (file : Vec ℕ) (new : List Event) → Looks name name old (Ok file) new → IsSeen name old new
-seen name old file new p = record {
-  bytes = file.items;
-  quiet = subst (λ (n : List Event). IsQuiet (look_call name file.items ∷ []) old n) (sym p.1) (record { files = λ path. refl; prints = refl; warns = equal (warnings (errors old)); reads = refl });
-}
+opens-reject : (form : CopyForm) (from : List ℕ) → Rejects (OpensFrom form from)
+opens-reject form from old ending new (why, opens, p) = one-rejected form.image.file.bytes.items why (length from) old ending new p
 
-mended-quiet : (lines : List ℕ) (old new : List Event) → TellsLines lines old new → IsQuiet [] old new
-mended-quiet [] old new p = still old new p
-mended-quiet (c ∷ lines) old new p = after-note p.0 (c ∷ lines) old new p.1
+word-noted : (word : Option (List ℕ)) (old new : List Event) → TellsWord word old new → DoesNothing old new
+word-noted None old new p = nothing old new p
+word-noted (Some word) old new (ok, p) = noted ok _ old new p
 
-seen-if : (is_lenient : Bool) (given : Option Layout) (is_plain : Bool) (name : List ℕ) (old : List Event) (file : Vec ℕ) (new : List Event) → LooksIf is_lenient given is_plain name old (Ok file) new → IsSeen name old new
-seen-if true given is_plain name old file new (inl ends) = absurd ends
-seen-if true given is_plain name old file new (inr two) =
-    seen-then name old two.between new (seen name old two.given two.between two.done) (mended-quiet (mended_lines name two.after.0) two.between new two.after.3)
-seen-if false given is_plain name old file new p = seen name old file new p
+wish-rejected : (words : List (List ℕ)) (one : Wish) (old : List Event) (ending : Ending) (new : List Event) → RefusesWish words one old ending new → (is_refusal ending ≡ true) × DoesNothing old new
+wish-rejected words (wish.File file) old ending new p = absurd p
+wish-rejected words (wish.BadWord place) old ending new p = (ends-so ending _ p.0 refl, word-noted (slice_get words place) old new p.1)
+wish-rejected words (wish.NotFound place) old ending new p = (ends-so ending _ p.0 refl, word-noted (slice_get words place) old new p.1)
+wish-rejected words (wish.Block block) old ending new p = (ends-so ending _ p.0 refl, nothing old new p.1)
 
-judged-still : (reading : ImageReading) (name : List ℕ) (file : Vec ℕ) (old : List Event) (it : Vec ℕ) (new : List Event) → JudgesLooked reading name file old (Ok it) new → new ≡ old
-judged-still reading name file old it new (inl ends) = absurd ends
-judged-still reading name file old it new (inr two) = two.after.1 ∙ judged name (two_readings reading.layout reading.is_plain file.items) old two.given two.between two.done
+all-reject : (words : List (List ℕ)) (wishes : List Wish) → Rejects (FindsAll words wishes)
+all-reject words wishes old ending new (inl (one, is, p)) = wish-rejected words one old ending new p
+all-reject words wishes old ending new (inr p) = (ends-so ending _ p.0 refl, nothing old new p.1)
 
-pub seen-image : (reading : ImageReading) (name : List ℕ) (old : List Event) (file : Vec ℕ) (new : List Event) → LooksImage reading name old (Ok file) new → IsSeen name old new
-seen-image reading name old file new (inl ends) = absurd ends
-seen-image reading name old file new (inr two) =
-    seen-then name old two.between new (seen-if reading.is_lenient reading.layout reading.is_plain name old two.given two.between two.done)
-    (still two.between new (judged-still reading name two.given two.between file new two.after))
+like-reject : (words : List (List ℕ)) (blocks : List (List ℕ)) → Rejects (FindsLike words blocks)
+like-reject words blocks =
+    then-rejects (Purely (AreWished words blocks)) (λ wishes. FindsAll words wishes.items) (λ old ending new p. (ends-so ending _ p.0 refl, nothing old new p.1)) (λ old wishes new p. nothing old new p.1)
+    (λ wishes. all-reject words wishes.items)
 
-found-still : (volumes : Volumes) (body : List ℕ) (old : List Event) (found : Vec ℕ) (new : List Event) → FindsIn volumes body old (Ok found) new → new ≡ old
-found-still (One layout) body old found new p = p.1
-found-still Both body old found new p = absurd p
+one-reject : (image : ImageForm) (size : ℕ) (wanted : Target) (blocks : List (List ℕ)) → Rejects (FindsOne image size wanted blocks)
+one-reject image size wanted blocks old ending new (inl (why, is, p)) = one-rejected image.file.bytes.items (Refused (session.File why)) size old ending new p
+one-reject image size wanted blocks old ending new (inr p) = (ends-so ending _ p.0 refl, nothing old new p.1)
 
-pub seen-at : (form : ImageForm) (old : List Event) (found : Vec ℕ) (new : List Event) → LooksAt form old (Ok found) new → IsSeen form.file.bytes.items old new
-seen-at form old found new (inl ends) = absurd ends
-seen-at form old found new (inr two) =
-    seen-then form.file.bytes.items old two.between new (seen-image (reading_of form) form.file.bytes.items old two.given two.between two.done)
-    (still two.between new (found-still (volumes_in form.layout form.is_plain two.given.items) (body_of form.layout form.is_plain two.given.items) two.between found new two.after))
+chosen-reject : (image : ImageForm) (choice : CopyChoice) (size : ℕ) (blocks : List (List ℕ)) → Rejects (FindsChosen image choice size blocks)
+chosen-reject image (One asked name) size blocks = one-reject image size (target_of asked) blocks
+chosen-reject image (Like words is_forced) size blocks = like-reject (map (λ word. word.bytes.items) words.items) blocks
 
--- ## Why it is refused
+finds-reject : (form : CopyForm) (from : List ℕ) → Rejects (FindsFiles form from)
+finds-reject form from =
+    then-rejects (OpensFrom form from) (λ blocks. FindsChosen form.image form.files (length from) blocks) (opens-reject form from) (λ old blocks new p. nothing old new p.1)
+    (λ blocks. chosen-reject form.image form.files (length from) blocks)
 
-mends-refuses : (given : Option Layout) (is_plain : Bool) (name file : List ℕ) → OnlyRefuses (Mends given is_plain name file)
-mends-refuses given is_plain name file old ending new p = (ends-so ending _ p.0 refl, ap output p.1)
+file-noted : (choice : CopyChoice) (file : VolumeFile) (old new : List Event) → TellsFile choice file old new → DoesNothing old new
+file-noted (One asked name) file old new p = nothing old new p
+file-noted (Like words is_forced) file old new (text, names, ok, p) = noted ok _ old new p
 
-looks-if-refuses : (is_lenient : Bool) (given : Option Layout) (is_plain : Bool) (name : List ℕ) → OnlyRefuses (LooksIf is_lenient given is_plain name)
-looks-if-refuses true given is_plain name = then-refuses (Looks name name) (λ file. Mends given is_plain name file.items) (looks-refuses name name) (λ old file new p. ap output p.1)
-    (λ file. mends-refuses given is_plain name file.items)
-looks-if-refuses false given is_plain name = looks-refuses name name
+copies-rejected : (form : CopyForm) (fault : CopyAllFault) (from to : ℕ) (old : List Event) (ending : Ending) (new : List Event) → RefusesCopies form fault from to old ending new → (is_refusal ending ≡ true) × DoesNothing old new
+copies-rejected form (copying.To fault) from to old ending new p = one-rejected form.to.file.bytes.items fault to old ending new p
+copies-rejected form (copying.Exists file) from to old ending new (inl p) = (ends-so ending _ p.0 refl, file-noted form.files file old new p.1)
+copies-rejected form (copying.Exists file) from to old ending new (inr p) = (ends-so ending _ p.0 refl, nothing old new p.1)
+copies-rejected form (copying.File file (one.From fault)) from to old ending new p = one-rejected form.image.file.bytes.items fault from old ending new p
+copies-rejected form (copying.File file (one.To fault)) from to old ending new (inl (between, tells, p)) =
+    let r = one-rejected form.to.file.bytes.items fault to between ending new p in
+    (r.0, nothing-then old between new (file-noted form.files file old between tells) r.1)
+copies-rejected form (copying.File file (one.To fault)) from to old ending new (inr p) = (ends-so ending _ p.0 refl, nothing old new p.1)
+copies-rejected form copying.Memory from to old ending new p = (ends-so ending _ p.0 refl, nothing old new p.1)
 
-is-judged : (file : Vec ℕ) → OnlyRefuses (Purely (IsJudged file))
-is-judged file old ending new p = absurd p.0
+puts-reject : (form : CopyForm) (from : List ℕ) (files : List VolumeFile) (to : List ℕ) → Rejects (PutsFiles form from files to)
+puts-reject form from files to old ending new (fault, copies, p) = copies-rejected form fault (length from) (length to) old ending new p
 
-pub image-refuses : (reading : ImageReading) (name : List ℕ) → OnlyRefuses (LooksImage reading name)
-image-refuses reading name = then-refuses (LooksIf reading.is_lenient reading.layout reading.is_plain name) (λ file. JudgesLooked reading name file)
-    (looks-if-refuses reading.is_lenient reading.layout reading.is_plain name) (λ old file new p. (seen-if reading.is_lenient reading.layout reading.is_plain name old file new p).quiet.prints)
-    (λ file. then-refuses (Judges name reading.layout reading.is_plain file.items) (λ it. Purely (IsJudged file))
-    (judges-by name (two_readings reading.layout reading.is_plain file.items)) (judges-silent name (two_readings reading.layout reading.is_plain file.items)) (λ it. is-judged file))
+tells-reject : (form : CopyForm) (from : List ℕ) (files : List VolumeFile) (to : List ℕ) → Rejects (TellsCopies form from files to)
+tells-reject form from files to = then-rejects (Answers (CutsFiles from to files) (length from)) (λ cuts. Purely (AreLines (stored_lines (new_name form.files) files cuts.items))) (answers-reject (CutsFiles from to files) (length from))
+    (λ old cuts new p. nothing old new p.1) (λ cuts. lines-reject (stored_lines (new_name form.files) files cuts.items))
 
-finds-refuses : (volumes : Volumes) (body : List ℕ) → OnlyRefuses (FindsIn volumes body)
-finds-refuses (One layout) body old ending new p = (no-volume layout body ending p.0, ap output p.1)
-finds-refuses Both body old ending new (is, ok, p) = (ends-so ending _ is refl, ap output p)
+-- ## The files
 
-pub at-refuses : (form : ImageForm) → OnlyRefuses (LooksAt form)
-at-refuses form = then-refuses (LooksImage (reading_of form) form.file.bytes.items) (λ file. FindsOne form.layout form.is_plain file.items)
-    (image-refuses (reading_of form) form.file.bytes.items) (λ old file new p. (seen-image (reading_of form) form.file.bytes.items old file new p).quiet.prints)
-    (λ file. finds-refuses (volumes_in form.layout form.is_plain file.items) (body_of form.layout form.is_plain file.items))
+like : (words : List (List ℕ)) (from : List ℕ) (blocks : List (List ℕ)) → OpensVolume from (Ok blocks) → (old : List Event) (files : Vec VolumeFile) (new : List Event) → FindsLike words blocks old (Ok files) new
+    → AreLike words from files.items × (new ≡ old)
+like words from blocks opens old files new (inl ends) = absurd ends
+like words from blocks opens old files new (inr it) = found it.given it.between it.done.0 it.done.1 it.after
+  where
+    found : (wishes : Vec Wish) (two : List Event) → wishes.items ≡ wishes_of (files_on blocks) false words [] → two ≡ old → FindsAll words wishes.items two (Ok files) new → AreLike words from files.items × (new ≡ old)
+    found wishes two are same (none, files_are, p) = (
+      record {
+        blocks = blocks;
+        opens = opens;
+        all = subst (λ (w : List Wish). first_unfound w ≡ None) are none;
+        are = files_are ∙ ap (λ (w : List Wish). found_files w) are;
+      },
+      p ∙ same,
+    )
 
-one-refused : (is : Bool) (name : List ℕ) (fault : ArchiveFault) (size : ℕ) (old : List Event) (ending : Ending) (new : List Event) → RefusesIf is name fault size old ending new
-    → (is_refusal ending ≡ true) × (output new ≡ output old)
-one-refused true name fault size old ending new p = refuses-refused fault size old ending new p
-one-refused false name fault size old ending new p = refuses-refused fault size _ ending new p.1
+chosen-in : (image : ImageForm) (choice : CopyChoice) (from : List ℕ) (blocks : List (List ℕ)) → OpensVolume from (Ok blocks) → (old : List Event) (files : Vec VolumeFile) (new : List Event)
+    → FindsChosen image choice (length from) blocks old (Ok files) new → AreChosen choice from files.items × (new ≡ old)
+chosen-in image (One asked name) from blocks opens old files new (file, found, are, p) = (record { blocks = blocks; opens = opens; file = file; found = found; are = are }, p)
+chosen-in image (Like words is_forced) from blocks opens old files new p = like (map (λ word. word.bytes.items) words.items) from blocks opens old files new p
 
-copy-refused : (form : CopyForm) (fault : CopyFault) (from to : ℕ) (old : List Event) (ending : Ending) (new : List Event) → RefusesCopy form fault from to old ending new
-    → (is_refusal ending ≡ true) × (output new ≡ output old)
-copy-refused form (From fault) from to old ending new p = one-refused (is_want_of fault) form.image.file.bytes.items fault from old ending new p
-copy-refused form (To fault) from to old ending new p = one-refused (is_want_of fault) form.to.file.bytes.items fault to old ending new p
+chosen : (form : CopyForm) (from : List ℕ) (old : List Event) (files : Vec VolumeFile) (new : List Event) → FindsFiles form from old (Ok files) new → AreChosen form.files from files.items × IsQuiet [] old new
+chosen form from old files new (inl ends) = absurd ends
+chosen form from old files new (inr it) =
+    let two = chosen-in form.image form.files from it.given it.done.0 it.between files new it.after in
+    (two.0, still old new (two.1 ∙ it.done.1))
 
-makes-refuses : (form : CopyForm) (wanted : Target) (from to : List ℕ) → OnlyRefuses (MakesCopy form wanted from to)
-makes-refuses form wanted from to old ending new (inl (why, copies, p)) = copy-refused form why (length from) (length to) old ending new p
-makes-refuses form wanted from to old ending new (inr p) = (ends-so ending _ p.0 refl, ap output p.1)
+-- the lines of the copies
+record HasLines (form : CopyForm) (from : List ℕ) (files : List VolumeFile) (to lines : List ℕ) : Type 0 where
+  cuts : Vec Bool
+  cut : CutsFiles from to files (Ok cuts)
+  are : lines ≡ stored_lines (new_name form.files) files cuts.items
 
-tells-refuses : (from : List ℕ) (wanted : Target) (to : List ℕ) (made : NewImage) → OnlyRefuses (TellsCopy from wanted to made)
-tells-refuses from wanted to made = then-refuses (Answers (CutsFile from wanted to) (length from)) (λ cut. Purely (AreLines (copied_lines made cut)))
-    (answers-refuse (CutsFile from wanted to) (length from)) (answers-silent (CutsFile from wanted to) (length from)) (λ cut. lines-refuse (copied_lines made cut))
+has-lines : (form : CopyForm) (from : List ℕ) (files : List VolumeFile) (to : List ℕ) (old : List Event) (lines : Vec ℕ) (new : List Event) → TellsCopies form from files to old (Ok lines) new
+    → HasLines form from files to lines.items × IsQuiet [] old new
+has-lines form from files to old lines new (inl ends) = absurd ends
+has-lines form from files to old lines new (inr it) = (record { cuts = it.given; cut = it.done.0; are = it.after.0 }, still old new (it.after.1 ∙ it.done.1))
 
 -- ## The steps before the save
 
--- the lines of a copy
-record HasLines (from : List ℕ) (wanted : Target) (to : List ℕ) (made : NewImage) (old : List Event) (lines : List ℕ) (new : List Event) : Type 0 where
-  cut : Option VolumeFile
-  cuts : CutsFile from wanted to (Ok cut)
-  are : lines ≡ copied_lines made cut
-  stays : new ≡ old
+-- the copies, and the volume with them
+record Copied (is_one : Bool) (form : CopyForm) (image : Image) (calls : List Event) (bytes lines : List ℕ) : Type 0 where
+  from : List ℕ
+  source : IsSource is_one form.image image calls from
+  files : List VolumeFile
+  chosen_files : AreChosen form.files from files
+  made : Vec ℕ
+  copies : CopiesAll from image.bytes.items (new_name form.files) files (may_replace form.files) (Ok made)
+  bytes_are : bytes ≡ made.items
+  told : HasLines form from files image.bytes.items lines
 
-has-lines : (from : List ℕ) (wanted : Target) (to : List ℕ) (made : NewImage) (old : List Event) (lines : Vec ℕ) (new : List Event) → TellsCopy from wanted to made old (Ok lines) new
-    → HasLines from wanted to made old lines.items new
-has-lines from wanted to made old lines new (inl ends) = absurd ends
-has-lines from wanted to made old lines new (inr it) = record { cut = it.given; cuts = it.done.0; are = it.after.0; stays = it.after.1 ∙ it.done.1 }
+into-prepares : (is_one : Bool) (form : CopyForm) (image : Image) (calls_before : List Event) (from : List ℕ) → IsSource is_one form.image image calls_before from
+    → Prepares image (λ calls bytes lines. Copied is_one form image (calls ++ calls_before) bytes lines) (CopiesInto form image from)
+into-prepares is_one form image calls_before from source =
+    prepares-then image (λ calls bytes lines. Copied is_one form image (calls ++ calls_before) bytes lines)
+    (FindsFiles form from) (λ files. Then (PutsFiles form from files.items image.bytes.items) (λ made. Then (TellsCopies form from files.items image.bytes.items) (λ lines. Stores image made.items lines.items)))
+    (λ files. []) (λ files. AreChosen form.files from files.items) (finds-reject form from) (λ old files new p. chosen form from old files new p)
+    (λ files is. prepares-then image (λ calls bytes lines. Copied is_one form image ((calls ++ []) ++ calls_before) bytes lines)
+    (PutsFiles form from files.items image.bytes.items) (λ made. Then (TellsCopies form from files.items image.bytes.items) (λ lines. Stores image made.items lines.items))
+    (λ made. []) (λ made. CopiesAll from image.bytes.items (new_name form.files) files.items (may_replace form.files) (Ok made)) (puts-reject form from files.items image.bytes.items) (λ old made new p. (p.0, still old new p.1))
+    (λ made copies. prepares-then image (λ calls bytes lines. Copied is_one form image (((calls ++ []) ++ []) ++ calls_before) bytes lines)
+    (TellsCopies form from files.items image.bytes.items) (λ lines. Stores image made.items lines.items)
+    (λ lines. []) (λ lines. HasLines form from files.items image.bytes.items lines.items) (tells-reject form from files.items image.bytes.items) (λ old lines new p. has-lines form from files.items image.bytes.items old lines new p)
+    (λ lines told old result new p. inl (record {
+      calls = [];
+      bytes = made.items;
+      lines = lines.items;
+      gave = record { from = from; source = source; files = files.items; chosen_files = is; made = made; copies = copies; bytes_are = refl; told = told };
+      mid = old;
+      quiet = still old old refl;
+      stores = p;
+    }))))
 
-module _ (form : CopyForm) (old : List Event) (result : Result (Unit {0}) Ending) (new : List Event)
-  where
-    -- the new volume is made, and is to be stored
-    record IsMade (is_one : Bool) (wanted : Target) : Type 0 where
-      image : Image
-      calls : List Event
-      from : List ℕ
-      source : IsSource is_one form.image image calls from
-      made : NewImage
-      copies : CopiesFile from wanted image.bytes.items (new_name form) (Ok made)
-      cut : Option VolumeFile
-      cuts : CutsFile from wanted image.bytes.items (Ok cut)
-      is_ready : IsReady form.to calls image made.bytes.items (copied_lines made cut) old result new
+none-more : (calls : List Event) → calls ++ [] ≡ calls
+none-more [] = refl
+none-more (call ∷ calls) = ap (λ (l : List Event). call ∷ l) (none-more calls)
 
-    abbrev MadeIf : Bool → Target → Type 0
-    MadeIf is_one wanted = IsMade is_one wanted ⊎ IsRefused result old new
+-- no call was read before these
+plain : (is_one : Bool) (form : CopyForm) (image : Image) (old : List Event) (result : Result (Unit {0}) Ending) (new : List Event)
+    → Prepared image (λ calls bytes lines. Copied is_one form image (calls ++ []) bytes lines) old result new ⊎ IsRejected result old new → Prepared image (Copied is_one form image) old result new ⊎ IsRejected result old new
+plain is_one form image old result new (inr rejected) = inr rejected
+plain is_one form image old result new (inl p) = inl (record {
+  calls = p.calls;
+  bytes = p.bytes;
+  lines = p.lines;
+  gave = subst (λ (l : List Event). Copied is_one form image l p.bytes p.lines) (none-more p.calls) p.gave;
+  mid = p.mid;
+  quiet = p.quiet;
+  stores = p.stores;
+})
 
-    lines : (is_one : Bool) (wanted : Target) (image : Image) (one mid last : List Event) (calls : List Event) (from : List ℕ) → HasOpened form.to old image one → IsQuiet calls one mid → IsSource is_one form.image image calls from
-        → (made : NewImage) → CopiesFile from wanted image.bytes.items (new_name form) (Ok made) → last ≡ mid
-        → Follows (TellsCopy from wanted image.bytes.items made) (λ line. Stores image made.bytes.items line.items) last result new ⊎ IsRefused result last new → MadeIf is_one wanted
-    lines is_one wanted image one mid last calls from o quiet source made copies same (inr refused) = inr (refused-after result old last new (ap output same ∙ quiet.prints ∙ o.quiet.prints) refused)
-    lines is_one wanted image one mid last calls from o quiet source made copies same (inl l) =
-        let h = has-lines from wanted image.bytes.items made last l.given l.between l.done in
-        inl (record {
-          image = image;
-          calls = calls;
-          from = from;
-          source = source;
-          made = made;
-          copies = copies;
-          cut = h.cut;
-          cuts = h.cuts;
-          is_ready = record {
-            opened_at = one;
-            start = o;
-            mid = mid;
-            quiet = quiet;
-            stores = subst (λ (n : List Event). Stores image made.bytes.items (copied_lines made h.cut) n result new) (h.stays ∙ same)
-                (subst (λ (x : List ℕ). Stores image made.bytes.items x l.between result new) h.are l.after);
-          };
-        })
-
-    into : (is_one : Bool) (wanted : Target) (image : Image) (one mid : List Event) (calls : List Event) (from : List ℕ) → HasOpened form.to old image one → IsQuiet calls one mid → IsSource is_one form.image image calls from
-        → CopiesInto form wanted image from mid result new → MadeIf is_one wanted
-    into is_one wanted image one mid calls from o quiet source p = go (reaches (MakesCopy form wanted from image.bytes.items) (λ made. Then (TellsCopy from wanted image.bytes.items made) (λ line. Stores image made.bytes.items line.items))
-        (makes-refuses form wanted from image.bytes.items) mid result new p)
-      where
-        go : Follows (MakesCopy form wanted from image.bytes.items) (λ made. Then (TellsCopy from wanted image.bytes.items made) (λ line. Stores image made.bytes.items line.items)) mid result new ⊎ IsRefused result mid new → MadeIf is_one wanted
-        go (inr refused) = inr (refused-after result old mid new (quiet.prints ∙ o.quiet.prints) refused)
-        go (inl m) = lines is_one wanted image one mid m.between calls from o quiet source m.given m.done.0 m.done.1
-            (reaches (TellsCopy from wanted image.bytes.items m.given) (λ line. Stores image m.given.bytes.items line.items) (tells-refuses from wanted image.bytes.items m.given) m.between result new m.after)
-
-    source-of : (is_one : Bool) (wanted : Target) (image : Image) (one : List Event) → HasOpened form.to old image one → CopiesFrom is_one form wanted image one result new → MadeIf is_one wanted
-    source-of true wanted image one o p = into true wanted image one one [] image.bytes.items o (still one one refl) (refl, refl) p
-    source-of false wanted image one o p = go (reaches (LooksAt form.image) (λ from. CopiesInto form wanted image from.items) (at-refuses form.image) one result new p)
-      where
-        go : Follows (LooksAt form.image) (λ from. CopiesInto form wanted image from.items) one result new ⊎ IsRefused result one new → MadeIf false wanted
-        go (inr refused) = inr (refused-after result old one new o.quiet.prints refused)
-        go (inl f) =
-            let s = seen-at form.image one f.given f.between f.done in
-            let calls = look_call form.image.file.bytes.items s.bytes ∷ [] in
-            into false wanted image one f.between calls f.given.items o s.quiet
-            (record { before = one; after = f.between; found = f.given; looks = f.done; reads = s.quiet.reads; is = refl }) f.after
-
-    opened : (wanted : Target) → Then (Opens form.to) (λ image. CopiesFrom (is_one_image form.image form.to) form wanted image) old result new → MadeIf (is_one_image form.image form.to) wanted
-    opened wanted p = go (reaches (Opens form.to) (λ image. CopiesFrom (is_one_image form.image form.to) form wanted image) (opens-refuses form.to) old result new p)
-      where
-        go : Follows (Opens form.to) (λ image. CopiesFrom (is_one_image form.image form.to) form wanted image) old result new ⊎ IsRefused result old new → MadeIf (is_one_image form.image form.to) wanted
-        go (inr refused) = inr refused
-        go (inl it) = source-of (is_one_image form.image form.to) wanted it.given it.between (has-opened form.to old it.given it.between it.done) it.after
-
-    ready : Copies form old result new → MadeIf (is_one_image form.image form.to) (target_of form.file)
-    ready p = opened (target_of form.file) p
+from-prepares : (is_one : Bool) (form : CopyForm) (image : Image) → Prepares image (Copied is_one form image) (CopiesFrom is_one form image)
+from-prepares true form image old result new p = plain true form image old result new (into-prepares true form image [] image.bytes.items (refl, refl) old result new p)
+from-prepares false form image old (Ok it) new (inl ends) = absurd ends
+from-prepares false form image old (Err ending) new (inl ends) = inr (rejects-by (LooksAt form.image) (at-refuses form.image) (looks-at-keeps form.image) old ending new ends)
+from-prepares false form image old result new (inr it) =
+    let s = seen-at form.image old it.given it.between it.done in
+    prepared-after (look_call form.image.file.bytes.items s.bytes ∷ []) image (Copied false form image) old it.between result new s.quiet
+    (into-prepares false form image (look_call form.image.file.bytes.items s.bytes ∷ []) it.given.items
+    (record { before = old; after = it.between; found = it.given; looks = it.done; reads = s.quiet.reads; is = refl }) it.between result new it.after)
 
 -- what each ending of a copy means
-pub copy-ends : FindsSaved → FindsUnsaved → (form : CopyForm) → LeavesFiles (Copies form) → (old : List Event) (result : Result (Unit {0}) Ending) (new : List Event) → Copies form old result new
-    → EndsAs form.to (HasCopied form) result old new
-copy-ends saves stays form leaves old result new p = made-or-refused form.to (HasCopied form) (Copies form) leaves old result new p (ready form old result new p) (λ m.
-    by-store saves stays form.to m.calls m.image m.made.bytes.items (copied_lines m.made m.cut) (HasCopied form) old result new m.is_ready (λ ok has reads prints. record {
-      image = m.image;
-      path = m.is_ready.start.path;
-      was = m.is_ready.start.was;
-      opened = m.is_ready.start.opened;
-      calls = m.calls;
-      from = m.from;
-      source = m.source;
+pub copy-ends : FindsSaved → FindsUnsaved → (form : CopyForm) (old : List Event) (result : Result (Unit {0}) Ending) (new : List Event) → Copies form old result new → EndsAs form.to (HasCopied form) result old new
+copy-ends saves stays form old result new p =
+    prepared-ends saves stays form.to (λ image. CopiesFrom (is_one_image form.image form.to) form image) (Copied (is_one_image form.image form.to) form) (HasCopied form)
+    (from-prepares (is_one_image form.image form.to) form) old result new (λ ok image path was opened calls bytes lines p has reads prints. record {
+      image = image;
+      path = path;
+      was = was;
+      opened = opened;
+      calls = calls;
+      from = p.from;
+      source = p.source;
       reads = reads;
-      made = m.made;
-      copies = m.copies;
-      cut = m.cut;
-      cuts = m.cuts;
-      has = has;
-      prints = prints;
-    }))
+      files = p.files;
+      chosen = p.chosen_files;
+      made = p.made;
+      copies = p.copies;
+      cuts = p.told.cuts;
+      cut = p.told.cut;
+      has = subst (λ (b : List ℕ). GetsVolume form.to image path was b old new) p.bytes_are has;
+      prints = subst (λ (l : List ℕ). output new ≡ (ok, l) ∷ output old) p.told.are prints;
+    }) p
+
+-- ## Copies that are refused
+
+keeps-by : {A : Type 0} (step : List Event → Result A Ending → List Event → Type 0) → Rejects step → ((old : List Event) (it : A) (new : List Event) → step old (Ok it) new → IsQuiet [] old new) → KeepsFiles step
+keeps-by step rejects quiet old (Ok it) new p path = (quiet old it new p).files path
+keeps-by step rejects quiet old (Err ending) new p path = (rejects old ending new p).1.0 path
+
+into-leaves : (form : CopyForm) (image : Image) (from : List ℕ) → LeavesFiles (CopiesInto form image from)
+into-leaves form image from =
+    then-leaves (FindsFiles form from) (λ files. Then (PutsFiles form from files.items image.bytes.items) (λ made. Then (TellsCopies form from files.items image.bytes.items) (λ lines. Stores image made.items lines.items)))
+    (keeps-by (FindsFiles form from) (finds-reject form from) (λ old files new p. (chosen form from old files new p).1))
+    (λ files. then-leaves (PutsFiles form from files.items image.bytes.items) (λ made. Then (TellsCopies form from files.items image.bytes.items) (λ lines. Stores image made.items lines.items))
+    (keeps-by (PutsFiles form from files.items image.bytes.items) (puts-reject form from files.items image.bytes.items) (λ old made new p. still old new p.1))
+    (λ made. then-leaves (TellsCopies form from files.items image.bytes.items) (λ lines. Stores image made.items lines.items)
+    (keeps-by (TellsCopies form from files.items image.bytes.items) (tells-reject form from files.items image.bytes.items) (λ old lines new p. (has-lines form from files.items image.bytes.items old lines new p).1))
+    (λ lines. stores-leaves image made.items lines.items)))
+
+from-leaves : (is_one : Bool) (form : CopyForm) (image : Image) → LeavesFiles (CopiesFrom is_one form image)
+from-leaves true form image = into-leaves form image image.bytes.items
+from-leaves false form image = then-leaves (LooksAt form.image) (λ from. CopiesInto form image from.items) (looks-at-keeps form.image) (λ from. into-leaves form image from.items)
+
+pub copies-leave : (form : CopyForm) → LeavesFiles (Copies form)
+copies-leave form = then-leaves (Opens form.to) (λ image. CopiesFrom (is_one_image form.image form.to) form image) (opens-never form.to) (λ image. from-leaves (is_one_image form.image form.to) form image)

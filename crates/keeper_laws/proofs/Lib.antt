@@ -2,9 +2,9 @@ mod AgainLemmas
 pub mod BackLemmas
 mod ChoiceLemmas
 mod ChangeLemmas
-mod CopyAllLemmas
+mod GoneLemmas
 mod GotBackLemmas
-pub mod CopyLemmas
+mod CopyLemmas
 mod HeldLemmas
 mod LineLemmas
 pub mod MakeLemmas
@@ -16,8 +16,10 @@ mod PutLemmas
 pub mod RefuseLemmas
 mod RefusedLemmas
 mod RescueLemmas
+pub mod SeenLemmas
 mod SoundLemmas
 pub mod StoreLemmas
 mod TextLemmas
+mod ThenLemmas
 mod TouchLemmas
 pub mod AloneLemmas

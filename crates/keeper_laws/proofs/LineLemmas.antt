@@ -1,12 +1,11 @@
 -- The lines of refusals and of the program are of ASCII.
-use Rattle.std.proofs.Common.{◌≡◌, ◌<◌, ◌+◌, ◌*◌, ◌/◌, ◌%◌, ◌==◌, ◌&&◌, inl, inr, ℕ, zero, suc, Bool, true, false, if◌then◌else◌, nat_eq, nat_lt, nat_le, List, [], ◌∷◌, ◌++◌, refl, subst, sym, ap, arith, codes, decimal, true≢false}
+use Rattle.std.proofs.Common.{◌≡◌, ◌<◌, ◌+◌, ◌/◌, ◌%◌, ◌==◌, ◌&&◌, inl, inr, ℕ, zero, suc, Bool, true, false, if◌then◌else◌, nat_lt, List, [], ◌∷◌, ◌++◌, refl, sym, ap, arith, codes, decimal, true≢false}
 use Rattle.std.specs.Str.{IsAscii, IsUtf8}
 use Rattle.hosts.specs.Event.{Event, tell_call}
 use Rattle.image_files.specs.Ending.{TellsLine}
 use Rattle.std.specs.Fmt.{digit_glyph, digits, digits_onto}
 use Rattle.std.specs.List.{list_all}
 use Rattle.std.proofs.lemmas.Bool.{ltb-true}
-use Rattle.std.proofs.lemmas.Bool.Decides.{nat_tests}
 use Rattle.std.proofs.lemmas.Str.{IsAscii-append, IsUtf8-from_ascii}
 use Rattle.std.proofs.lemmas.Str.Ascii.{IsAscii-nil, IsAscii-cons}
 use Rattle.word12.specs.declared.sizes.TheConstants.{FIELD}
@@ -27,17 +26,16 @@ use Rattle.rim_tape.specs.declared.faults.RimFault.{RimFault}
 use Rattle.rim_tape.specs.declared.faults.RimFault.TheVariants as rim
 use Rattle.volume_image.specs.declared.faults.ImageFault.{ImageFault}
 use Rattle.volume_image.specs.declared.faults.ImageFault.TheVariants as image
-use Rattle.os8_dir.specs.Names.{words_of_name}
 use Rattle.os8_dir.specs.declared.faults.DirFault.{DirFault}
 use Rattle.os8_dir.specs.declared.faults.DirFault.TheVariants as directory
 use Rattle.os8_dir.specs.declared.file_faults.FileFault.{FileFault}
 use Rattle.os8_dir.specs.declared.file_faults.FileFault.TheVariants as file
-use Rattle.name_spelling.specs.Spelling.{all_zero, is_digit_code, is_letter_code, spelled_code, spelled_codes, text_of, text_of_words, two_codes, with_dot}
-use Rattle.program_reports.specs.Program.{core_text, disk_text, frame_text, image_text, images_text, names_text, program_line, program_text, refusal_text, rim_text}
+use Rattle.name_spelling.specs.Spelling.{all_zero, is_digit_code, is_letter_code, spelled_code, spelled_codes, text_of, two_codes, with_dot}
+use Rattle.program_reports.specs.Program.{core_text, disk_text, frame_text, image_text, program_line, program_text, refusal_text, rim_text}
 use Rattle.program_reports.specs.declared.programs.ProgramLine.{ProgramLine}
 use Rattle.program_reports.specs.declared.programs.ProgramLine.TheVariants as line
 use Rattle.refusals.specs.Faults.{asm_fault_text, code_text, directory_fault_text, fault_line, fault_text, file_fault_text, tape_fault_text}
-use Rattle.refusals.specs.Shown.{name_text, shown_code, shown_extension, shown_name, shown_words}
+use Rattle.refusals.specs.Shown.{name_text, shown_code, shown_extension, shown_words}
 use Rattle.refusals.specs.declared.faults.SessionFault.{SessionFault}
 use Rattle.refusals.specs.declared.faults.SessionFault.TheVariants as session
 

@@ -1,7 +1,6 @@
 -- A file with a new volume that is made, or that gets one.
 use Rattle.std.proofs.Common.{◌≡◌, ◌∙◌, ◌≤◌, ◌⊎◌, ℕ, suc, Bool, true, false, Option, Some, Result, Ok, Err, List, [], ◌∷◌, ap, refl, sym, subst, arith, inl, inr, true≢false}
 use Rattle.std.specs.Global.{Vec}
-use Rattle.std.specs.Str.{bytes_eq}
 use Rattle.hosts.specs.Event.{Event, print_call}
 use Rattle.hosts.specs.Faults.{class_of}
 use Rattle.hosts.specs.Place.{Place, Step, Just, Leaves, may_leave, about, replay, ever}
@@ -32,7 +31,7 @@ use Rattle.image_files.specs.Work.{Then}
 use Rattle.image_files.proofs.ReasonLemmas.{reason-keeps, unless-keeps, unless-output}
 use Rattle.change_commands.specs.Creating.{CreatesFile, IsBlankDisk, IsBlankImage, IsBlankTapeFile, MakesIf, MakesVolume}
 use Rattle.change_commands.specs.declared.creating.TheConstants.{TAPE_BLOCKS, DISK_BLOCKS}
-use Rattle.keeper_laws.specs.Changed.{TouchesAlone, is_warning, warnings}
+use Rattle.keeper_laws.specs.Changed.{ChangesNoOther, is_warning, warnings}
 use Rattle.keeper_laws.proofs.AloneLemmas.{alone-after, alone-before, alone-none, alone-only}
 use Rattle.keeper_laws.specs.Ended.{DoesNothing}
 use Rattle.keeper_laws.specs.Made.{EndsMade, GetsFile, HasCreated, IsFirst, MakesNone, MayBeInPart}
@@ -49,7 +48,7 @@ pub record IsFirstIf (name file : List ℕ) (old new : List Event) : Type 0 wher
   pub after : warnings (errors new) ≤ warnings (errors old) → (start : Place) (found : Option (List ℕ)) → Leaves (may_leave (replay start (about path new))) found → found ≡ Some file
   pub moments : has_links new ≡ true → (start : Place) (found : Option (List ℕ)) → Leaves (ever start (about path new)) found → (found ≡ Some file) ⊎ Leaves (ever start (about path old)) found
   pub first : replacements (about path new) ≡ replacements (about path old)
-  pub alone : TouchesAlone path old new
+  pub alone : ChangesNoOther path old new
 
 made-now : (durability : Durability) (file : List ℕ) (old new : List Step) → Makes (Ok durability) file old new → (start : Place) → (replay start new).seen ≡ Just (Some file)
 made-now Certain file old new made start = (made start).seen

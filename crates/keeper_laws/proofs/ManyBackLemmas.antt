@@ -31,8 +31,8 @@ use Rattle.archive_many.specs.declared.putting.NewFile.{NewFile}
 use Rattle.program_tasks.specs.declared.forms.ImageForm.{ImageForm}
 use Rattle.program_tasks.specs.declared.forms.PutFilesForm.{PutFilesForm}
 use Rattle.image_files.specs.Again.{IsFoundAgain}
-use Rattle.put_commands.specs.Putting.{Names, given_name, name_or_zeros}
-use Rattle.keeper_laws.specs.CopiedAll.{AreChosen}
+use Rattle.put_commands.specs.Putting.{Names, given_name, or_unused_name}
+use Rattle.keeper_laws.specs.Copied.{AreLike}
 use Rattle.keeper_laws.specs.GettingBack.{IsPrinted}
 use Rattle.keeper_laws.specs.Stored.{AreGiven}
 use Rattle.archive_files.proofs.AgainLemmas.{LongerTape, NoFault, got_again}
@@ -109,19 +109,19 @@ module _ (form : ImageForm) (saved image : List ℕ) (files : List NewFile) (inf
         (λ answer gets. law.ends image name file.bytes.items (info_or file.date info) alone answer (put-as put_as.Text is) gets)
 
 -- a name that is given is spelled by its text, where the file of it could be put
-pub typed-so : (typed : Option ℕ) (name : ℕ) → name ≡ name_or_zeros typed → IsNamed name → typed ≡ Some name
+pub typed-so : (typed : Option ℕ) (name : ℕ) → name ≡ or_unused_name typed → IsNamed name → typed ≡ Some name
 typed-so (Some number) name is named = ap (λ (n : ℕ). Some n) (sym is)
 typed-so None name is named = absurd (omega (arith, is, named))
 
 -- the one file that is put under a name that is given
-pub named-so : (asked : PutFilesForm) (paths : List (List ℕ)) (file : NewFile) (text : List ℕ) → AreGiven asked paths (file ∷ []) → given_name asked ≡ Some text → file.name ≡ name_or_zeros (typed_name text)
+pub named-so : (asked : PutFilesForm) (paths : List (List ℕ)) (file : NewFile) (text : List ℕ) → AreGiven asked paths (file ∷ []) → given_name asked ≡ Some text → file.name ≡ or_unused_name (typed_name text)
 named-so asked [] file text given is = absurd given
-named-so asked (path ∷ paths) file text (one, rest) is = some_eq file.name (name_or_zeros (typed_name text)) (subst (λ (g : Option (List ℕ)). Names g path (Some file.name)) is one.named)
+named-so asked (path ∷ paths) file text (one, rest) is = some_eq file.name (or_unused_name (typed_name text)) (subst (λ (g : Option (List ℕ)). Names g path (Some file.name)) is one.named)
 
 -- ## Files that were copied
 
 -- the new image is one of a sound volume
-are-opened : CopyIsTheSame → (from to new : List ℕ) (blocks : List (List ℕ)) (files : List VolumeFile) → IsOpened to blocks → AreCopied from to files new → (after : List (List ℕ)) × IsOpened new after
+are-opened : CopyIsTheSame → (from to new : List ℕ) (blocks : List (List ℕ)) (files : List VolumeFile) → IsOpened to blocks → AreCopied from to None files new → (after : List (List ℕ)) × IsOpened new after
 are-opened law from to new blocks [] opened copied = (blocks, subst (λ (bytes : List ℕ). IsOpened bytes blocks) (sym copied) opened)
 are-opened law from to new blocks (file ∷ files) opened (next, one, rest) =
     let has = law from to (AtBlock file.place) None one.file next blocks one one.source opened.is_image in
@@ -136,7 +136,7 @@ older-there : (info : ℕ) (there older : Option FileData) (is : Bool) → is �
 older-there info there older is unlike = ap (λ (b : Bool). if b then copy_or info there older else older) unlike
 
 module _ (back : WrittenIsReadBack) (same : CopyIsTheSame) (law : LikeAreCopied) (from to : List ℕ) (words : List (List ℕ)) (files : List VolumeFile) (is_forced : Bool) (made : Vec ℕ)
-    (chosen : AreChosen words from files) (copies : CopiesAll from to files is_forced (Ok made)) (name : List ℕ) (number : ℕ) (named : typed_name name ≡ Some number)
+    (chosen : AreLike words from files) (copies : CopiesAll from to None files is_forced (Ok made)) (name : List ℕ) (number : ℕ) (named : typed_name name ≡ Some number)
   where
     abbrev old : List (List ℕ)
     old = copies.0.0
@@ -146,7 +146,7 @@ module _ (back : WrittenIsReadBack) (same : CopyIsTheSame) (law : LikeAreCopied)
 
     all : (blocks : List (List ℕ)) × IsImageOf made.items blocks × ((name : ℕ) → get (files_of blocks) name
         ≡ (if is_like_one words name then copy_or (info_of old) (get (files_of chosen.blocks) name) (get (files_of old) name) else get (files_of old) name))
-    all = law from to chosen.blocks old words made.items chosen.opens opened chosen.all (subst (λ (l : List VolumeFile). AreCopied from to l made.items) chosen.are copies.1)
+    all = law from to chosen.blocks old words made.items chosen.opens opened chosen.all (subst (λ (l : List VolumeFile). AreCopied from to None l made.items) chosen.are copies.1)
 
     sound : IsOpened made.items all.0
     sound =

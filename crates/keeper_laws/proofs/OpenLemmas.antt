@@ -4,8 +4,8 @@ use Rattle.hosts.specs.Event.{Event, look_call, tell_call}
 use Rattle.hosts.specs.Streams.{errors, output, read}
 use Rattle.image_kind.specs.declared.kinds.ImageKind.{ImageKind}
 use Rattle.image_kind.specs.Keeping.{keeps_kind, two_readings}
-use Rattle.image_kind.specs.Margins.{margins_in}
-use Rattle.image_kind.specs.Volumes.{volumes_in}
+use Rattle.image_kind.specs.Margins.{margins_by, margins_in}
+use Rattle.image_kind.specs.Volumes.{script_kind, volumes_in, volumes_with}
 use Rattle.image_kind.specs.declared.judging.Judgment.{Judgment}
 use Rattle.image_kind.specs.declared.margins.Margins.{Margins}
 use Rattle.image_kind.specs.declared.volumes.Volumes.{Volumes}
@@ -19,12 +19,13 @@ use Rattle.program_tasks.specs.declared.forms.ImageForm.{ImageForm}
 use Rattle.image_files.specs.Again.{IsFoundAgain}
 use Rattle.image_files.specs.Judging.{JudgesBy}
 use Rattle.image_files.specs.Laws.{ChangesNothing}
-use Rattle.image_files.specs.Reading.{HoldsAt, JudgesOpened, Looks, MakesOne, Opens, judgment_of, looked_name}
+use Rattle.image_files.specs.Reading.{Holds, HoldsAt, JudgesForScript, JudgesOpened, Looks, MakesOne, Opens, OpensForScript, judgment_of, looked_name}
 use Rattle.image_files.specs.Saving.{IsFileWith}
 use Rattle.image_files.specs.Work.{Then}
 use Rattle.image_files.specs.declared.images.Image.{Image}
 use Rattle.image_files.specs.declared.reading.ImagePlace.{ImagePlace}
 use Rattle.keeper_laws.specs.Changed.{IsHeldAt, IsOpened, IsVolumeBy, is_warning, warnings, with_warning}
+use Rattle.keeper_laws.specs.Ended.{ReadsHeld}
 
 -- ## Steps that write nothing
 
@@ -141,3 +142,39 @@ pub has-opened : (form : ImageForm) (old : List Event) (image : Image) (new : Li
 has-opened form old image new (inl ends) = absurd ends
 has-opened form old image new (inr it) =
     looked form it.given old it.between image new (it.between, it.done, refl) (held form.file.bytes.items it.given it.given.is_held old it.between it.done.1) it.after
+
+-- ## The file is held first
+
+-- a step that finds a volume in bytes, and asks nothing of the host where it does
+abbrev FindsIn : (ImagePlace → List ℕ → List Event → Result Image Ending → List Event → Type 0) → Type 0
+FindsIn judges = (place : ImagePlace) (file : List ℕ) (old : List Event) (image : Image) (new : List Event) → judges place file old (Ok image) new → (image.place ≡ place) × (new ≡ old)
+
+-- an image file is held before it is read
+held-first : (form : ImageForm) (judges : ImagePlace → List ℕ → List Event → Result Image Ending → List Event → Type 0) → FindsIn judges → (old : List Event) (image : Image) (new : List Event)
+    → Then (Holds form.file.bytes.items) (λ place. Then (Looks (looked_name place form.file.bytes.items) form.file.bytes.items) (λ file. judges place file.items)) old (Ok image) new → ReadsHeld form image old new
+held-first form judges finds old image new (inl ends) = absurd ends
+held-first form judges finds old image new (inr it) = read it.after where
+  read : Then (Looks (looked_name it.given form.file.bytes.items) form.file.bytes.items) (λ file. judges it.given file.items) it.between (Ok image) new → ReadsHeld form image old new
+  read (inl ends) = absurd ends
+  read (inr two) =
+      let found = finds it.given two.given.items two.between image new two.after in
+      record {
+        begun = it.between;
+        held = subst (λ (p : ImagePlace). Holds form.file.bytes.items old (Ok p) it.between) (sym found.0) it.done;
+        was = two.given.items;
+        reads = found.1 ∙ two.done.1 ∙ ap (λ (p : ImagePlace). look_call (looked_name p form.file.bytes.items) two.given.items ∷ it.between) (sym found.0);
+      }
+
+pub reads-held : (form : ImageForm) (old : List Event) (image : Image) (new : List Event) → Opens form old (Ok image) new → ReadsHeld form image old new
+reads-held form = held-first form (λ place file. JudgesOpened place form file) finds where
+  finds : FindsIn (λ place file. JudgesOpened place form file)
+  finds place file old image new p = let m = judged-made place form file old image new p in (m.place_is, m.stays)
+
+-- the same of an image that a script runs over
+pub script-held : (form : ImageForm) (old : List Event) (image : Image) (new : List Event) → OpensForScript form old (Ok image) new → ReadsHeld form image old new
+script-held form = held-first form (λ place file. JudgesForScript place form file) finds where
+  finds : FindsIn (λ place file. JudgesForScript place form file)
+  finds place file old image new (inl ends) = absurd ends
+  finds place file old image new (inr it) =
+      let m = made-of place (judgment_of form file) (volumes_with form.layout (script_kind form.is_plain file)) (margins_by form.layout (script_kind form.is_plain file)) file it.between image new it.after in
+      (m.place_is, m.stays ∙ judged form.file.bytes.items (two_readings form.layout form.is_plain file) old it.given it.between it.done)

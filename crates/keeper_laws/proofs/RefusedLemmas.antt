@@ -1,38 +1,30 @@
 -- Commands that have changed no file where they are refused.
-use Rattle.std.proofs.Common.{ℕ, Bool, true, false, Option, None, Some, Result, Ok, Err, List, ◌∷◌, inl, inr, length, map}
+use Rattle.std.proofs.Common.{ℕ, Bool, true, false, Option, None, Some, Result, Ok, Err, List, inl, inr, length, map}
 use Rattle.hosts.specs.Event.{Event}
 use Rattle.name_spelling.specs.Patterns.{has_pattern}
 use Rattle.outcome.specs.declared.endings.Ending.{Ending}
 use Rattle.archive_files.specs.Asking.{Target, AtBlock, target_of}
-use Rattle.archive_files.specs.declared.faults.ArchiveFault.{ArchiveFault}
-use Rattle.archive_files.specs.declared.faults.CopyFault.{CopyFault}
-use Rattle.archive_files.specs.declared.faults.CopyFault.TheVariants.{From, To}
 use Rattle.archive_files.specs.declared.faults.DeleteFault.{DeleteFault}
 use Rattle.archive_files.specs.declared.faults.DeleteFault.TheVariants.{Archive, Name}
 use Rattle.archive_files.specs.declared.faults.RenameFault.{RenameFault}
 use Rattle.archive_files.specs.declared.faults.RenameFault.TheVariants as rename
-use Rattle.archive_files.specs.declared.putting.NewImage.{NewImage}
-use Rattle.archive_many.specs.Cutting.{CutsFile}
 use Rattle.archive_files.specs.Squeezing.{SqueezesFiles}
 use Rattle.archive_many.specs.Opened.{OpensVolume}
 use Rattle.archive_many.specs.declared.wishes.Wish.{Wish}
 use Rattle.archive_many.specs.declared.wishes.Wish.TheVariants as wish
-use Rattle.program_tasks.specs.declared.forms.CopyForm.{CopyForm}
 use Rattle.program_tasks.specs.declared.forms.DeleteForm.{DeleteForm}
 use Rattle.program_tasks.specs.declared.forms.ImageForm.{ImageForm}
 use Rattle.image_files.specs.Answers.{Answers, AreLines}
 use Rattle.asked_files.specs.Asking.{AreNamed}
 use Rattle.change_commands.specs.Changing.{Changes, GivesName, RefusesName, Renames, Squeezes}
 use Rattle.change_commands.specs.Choosing.{AreWished, Chooses, FindsAll, MeansFiles, MeansIf, RefusesWish, TellsRefused, one_of_several, word_at, words_in}
-use Rattle.change_commands.specs.Copying.{Copies, CopiesFrom, CopiesInto, MakesCopy, RefusesCopy, TellsCopy, copied_lines}
-use Rattle.image_files.specs.Pairs.{RefusesIf, is_one_image, is_want_of}
 use Rattle.change_commands.specs.Deleting.{Deletes, TakesMeant, TakesOut, RefusesFile}
-use Rattle.image_files.specs.Reading.{LooksAt, Opens}
+use Rattle.image_files.specs.Reading.{Opens}
 use Rattle.image_files.specs.Saving.{Stores}
 use Rattle.image_files.specs.Work.{Then, Purely}
 use Rattle.image_files.specs.declared.images.Image.{Image}
 use Rattle.image_files.specs.Laws.{KeepsFiles, ChangesNothing, LeavesFiles}
-use Rattle.image_files.proofs.KeepLemmas.{then-keeps, purely-keeps, looks-at-keeps}
+use Rattle.image_files.proofs.KeepLemmas.{then-keeps, purely-keeps}
 use Rattle.image_files.proofs.LeaveLemmas.{same, told, then-leaves, refuses-never, answers-never, opens-never, stores-leaves}
 
 -- ## One change of an image
@@ -102,36 +94,3 @@ takes-meant-never form image =
 
 pub deletes-leave : (form : DeleteForm) → LeavesFiles (Deletes form)
 deletes-leave form = changes-leave (TakesMeant form) _ _ form.image (takes-meant-never form)
-
--- ## A copy
-
-refuses-if : (is : Bool) (name : List ℕ) (fault : ArchiveFault) (size : ℕ) (old : List Event) (ending : Ending) (new : List Event) → RefusesIf is name fault size old ending new → ChangesNothing old new
-refuses-if true name fault size old ending new p = refuses-never fault size old ending new p
-refuses-if false name fault size old ending new p = refuses-never fault size _ ending new p.1
-
-refuses-copy : (form : CopyForm) (fault : CopyFault) (from to : ℕ) (old : List Event) (ending : Ending) (new : List Event) → RefusesCopy form fault from to old ending new → ChangesNothing old new
-refuses-copy form (From fault) from to old ending new p = refuses-if (is_want_of fault) form.image.file.bytes.items fault from old ending new p
-refuses-copy form (To fault) from to old ending new p = refuses-if (is_want_of fault) form.to.file.bytes.items fault to old ending new p
-
-makes-copy-never : (form : CopyForm) (wanted : Target) (from to : List ℕ) → KeepsFiles (MakesCopy form wanted from to)
-makes-copy-never form wanted from to old (Ok it) new p = same old new p.1
-makes-copy-never form wanted from to old (Err ending) new (inl (why, copies, p)) = refuses-copy form why (length from) (length to) old ending new p
-makes-copy-never form wanted from to old (Err ending) new (inr p) = same old new p.1
-
-tells-copy-never : (from : List ℕ) (wanted : Target) (to : List ℕ) (made : NewImage) → KeepsFiles (TellsCopy from wanted to made)
-tells-copy-never from wanted to made =
-    then-keeps (Answers (CutsFile from wanted to) (length from)) (λ cut. Purely (AreLines (copied_lines made cut))) (answers-never (CutsFile from wanted to) (length from)) (λ cut. purely-keeps (AreLines (copied_lines made cut)))
-
-copies-into : (form : CopyForm) (wanted : Target) (image : Image) (from : List ℕ) → LeavesFiles (CopiesInto form wanted image from)
-copies-into form wanted image from =
-    then-leaves (MakesCopy form wanted from image.bytes.items) (λ made. Then (TellsCopy from wanted image.bytes.items made) (λ line. Stores image made.bytes.items line.items))
-    (makes-copy-never form wanted from image.bytes.items)
-    (λ made. then-leaves (TellsCopy from wanted image.bytes.items made) (λ line. Stores image made.bytes.items line.items) (tells-copy-never from wanted image.bytes.items made) (λ line. stores-leaves image made.bytes.items line.items))
-
-copies-from : (is : Bool) (form : CopyForm) (wanted : Target) (image : Image) → LeavesFiles (CopiesFrom is form wanted image)
-copies-from true form wanted image = copies-into form wanted image image.bytes.items
-copies-from false form wanted image = then-leaves (LooksAt form.image) (λ from. CopiesInto form wanted image from.items) (looks-at-keeps form.image) (λ from. copies-into form wanted image from.items)
-
-pub copies-leave : (form : CopyForm) → LeavesFiles (Copies form)
-copies-leave form = then-leaves (Opens form.to) (λ image. CopiesFrom (is_one_image form.image form.to) form (target_of form.file) image) (opens-never form.to)
-    (λ image. copies-from (is_one_image form.image form.to) form (target_of form.file) image)

@@ -24,7 +24,7 @@ use Rattle.image_files.specs.Saving.{HasSaved, IsFileWith, IsPlaceTold, IsSyncTo
 use Rattle.image_files.specs.declared.images.Image.{Image}
 use Rattle.image_files.specs.declared.reading.ImagePlace.{ImagePlace}
 use Rattle.image_files.proofs.ReasonLemmas.{reason-keeps, unless-output}
-use Rattle.keeper_laws.specs.Changed.{Becomes, GetsVolume, TouchesAlone, warnings}
+use Rattle.keeper_laws.specs.Changed.{Becomes, GetsVolume, ChangesNoOther, warnings}
 use Rattle.keeper_laws.specs.Ended.{AllStay, DoesNothing, EndsAs, MayHoldAPart, TouchesItAlone}
 use Rattle.keeper_laws.proofs.AloneLemmas.{alone-after, alone-at, alone-before, alone-only}
 use Rattle.keeper_laws.proofs.OpenLemmas.{FindsSaved, FindsUnsaved, HasOpened, IsQuiet, quiet-then}
@@ -37,7 +37,7 @@ pub record BecomesIf (path was file : List ℕ) (old new : List Event) : Type 0 
   pub after : warnings (errors new) ≤ warnings (errors old) → (start : Place) (found : Option (List ℕ)) → Leaves (may_leave (replay start (about path new))) found → found ≡ Some file
   pub moments : warnings (errors new) ≤ warnings (errors old) → (start : Place) (found : Option (List ℕ)) → Leaves (ever start (about path new)) found
       → (found ≡ Some file) ⊎ Leaves (ever start (about path old)) found
-  pub alone : TouchesAlone path old new
+  pub alone : ChangesNoOther path old new
 
 now-has : (is : Bool) (durability : Durability) (was file : List ℕ) (old new : List Step) → KeepsFile is durability file old new
     → (start : Place) → (replay start old).seen ≡ Just (Some was) → (replay start new).seen ≡ Just (Some file)
@@ -161,14 +161,14 @@ printed image was bytes line ok number old mid new is s = subst (λ (n : List Ev
 record IsPart (image : Image) (old new : List Event) : Type 0 where
   is_held : image.place.is_held ≡ true
   in_place : may_replace new ≡ false
-  alone : TouchesAlone image.place.path.bytes.items old new
+  alone : ChangesNoOther image.place.path.bytes.items old new
   prints : output new ≡ output old
   reads : read new ≡ read old
 
 -- the held file of an image, and the one beside it, may be touched, and no other
 record IsAlone (image : Image) (old new : List Event) : Type 0 where
   is_held : image.place.is_held ≡ true
-  alone : TouchesAlone image.place.path.bytes.items old new
+  alone : ChangesNoOther image.place.path.bytes.items old new
 
 -- each file is as it was
 record StaysAll (image : Image) (old new : List Event) : Type 0 where

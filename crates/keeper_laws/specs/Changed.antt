@@ -65,7 +65,7 @@ IsUnwarned old new = warnings (errors new) ≡ warnings (errors old)
 
 -- The file at one path, and the one beside it, may be made, changed or removed, and no other. None is left beside it, unless that could not be
 -- taken away.
-pub record TouchesAlone (path : List ℕ) (old new : List Event) : Type 0 where
+pub record ChangesNoOther (path : List ℕ) (old new : List Event) : Type 0 where
   pub others : (other : List ℕ) → bytes_eq path other ≡ false → about other new ≡ about other old
   pub beside : ClearsBeside (about path old) (about path new)
 
@@ -76,7 +76,7 @@ pub record Becomes (path was file : List ℕ) (old new : List Event) : Type 0 wh
   pub after : IsUnwarned old new → (start : Place) (found : Option (List ℕ)) → Leaves (may_leave (replay start (about path new))) found → found ≡ Some file
   pub moments : IsUnwarned old new → (start : Place) (found : Option (List ℕ)) → Leaves (ever start (about path new)) found
       → (found ≡ Some file) ⊎ Leaves (ever start (about path old)) found
-  pub alone : TouchesAlone path old new
+  pub alone : ChangesNoOther path old new
 
 -- The image file of a path has a volume of these bytes now, and each byte beside the volume as it was. It is held while it is changed. Where it
 -- had that volume nothing is changed. Whoever reads it by such a form finds these bytes.

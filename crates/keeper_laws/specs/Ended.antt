@@ -9,8 +9,10 @@ use Rattle.outcome.specs.declared.endings.Ending.{Ending}
 use Rattle.outcome.specs.declared.endings.Ending.TheVariants.{Line, Fault, Failure, Busy, NotWritten, FullOutput, Unreported, NoReader, Misuse}
 use Rattle.program_tasks.specs.declared.forms.ImageForm.{ImageForm}
 use Rattle.image_files.specs.Laws.{ChangesNothing}
+use Rattle.image_files.specs.Reading.{Holds, looked_name}
+use Rattle.image_files.specs.declared.images.Image.{Image}
 use Rattle.image_files.specs.declared.reading.ImagePlace.{ImagePlace}
-use Rattle.keeper_laws.specs.Changed.{IsHeldAt, TouchesAlone}
+use Rattle.keeper_laws.specs.Changed.{IsHeldAt, ChangesNoOther}
 
 -- no file is changed, and no line of a change is printed
 abbrev pub DoesNothing : List Event → List Event → Type 0
@@ -18,7 +20,7 @@ DoesNothing old new = ChangesNothing old new × (output new ≡ output old)
 
 -- one file at most is touched so
 abbrev pub TouchesOne : List Event → List Event → Type 0
-TouchesOne old new = (path : List ℕ) × TouchesAlone path old new
+TouchesOne old new = (path : List ℕ) × ChangesNoOther path old new
 
 -- the image file that is asked for is held, and then it alone is touched
 pub record TouchesHeld (form : ImageForm) (old new : List Event) : Type 0 where
@@ -26,11 +28,18 @@ pub record TouchesHeld (form : ImageForm) (old new : List Event) : Type 0 where
   pub path : List ℕ
   pub held : IsHeldAt form place path old
   pub is_held : place.is_held ≡ true
-  pub alone : TouchesAlone path old new
+  pub alone : ChangesNoOther path old new
 
 -- no file is touched, or that one
 abbrev pub TouchesItAlone : ImageForm → List Event → List Event → Type 0
 TouchesItAlone form old new = ChangesNothing old new ⊎ TouchesHeld form old new
+
+-- An image file is read, and nothing else is done. The file that is asked for was held before, if it may be written.
+pub record ReadsHeld (form : ImageForm) (image : Image) (old new : List Event) : Type 0 where
+  pub begun : List Event
+  pub held : Holds form.file.bytes.items old (Ok image.place) begun
+  pub was : List ℕ
+  pub reads : new ≡ look_call (looked_name image.place form.file.bytes.items) was ∷ begun
 
 -- Each file is as it was, and a crash leaves what it might have left before. No line of a change is printed.
 pub record AllStay (form : ImageForm) (old new : List Event) : Type 0 where
@@ -49,7 +58,7 @@ pub record MayHoldAPart (form : ImageForm) (old new : List Event) : Type 0 where
   pub calls : List Event
   pub reads : read new ≡ calls ++ (look_call path was ∷ read old)
   pub in_place : may_replace new ≡ false
-  pub alone : TouchesAlone path old new
+  pub alone : ChangesNoOther path old new
   pub prints : output new ≡ output old
 
 -- What is to be done is done where the command ends well, and where only its line can't be printed. A refusal changes nothing. An image that

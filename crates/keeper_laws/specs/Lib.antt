@@ -1,10 +1,10 @@
 pub mod Changed
 pub mod Changes
 pub mod Copied
-pub mod CopiedAll
 pub mod Ended
 pub mod GettingBack
 pub mod Held
 pub mod Made
+pub mod Seen
 pub mod Sound
 pub mod Stored

@@ -15,7 +15,7 @@ use Rattle.program_tasks.specs.declared.forms.ImageForm.{ImageForm}
 use Rattle.image_files.specs.Reading.{FindsOne}
 use Rattle.volume_salvage.specs.Salvaging.{Salvages, is_complete, rescued_text}
 use Rattle.volume_salvage.specs.declared.salvages.Salvage.{Salvage}
-use Rattle.keeper_laws.specs.Changed.{Becomes, IsUnwarned, TouchesAlone}
+use Rattle.keeper_laws.specs.Changed.{Becomes, IsUnwarned, ChangesNoOther}
 
 -- A file was made, whole, at the path that the host gave for a name that had none. Unless a note warns of it a crash now leaves it. One at any
 -- moment before left it, whole, or what it might have left before, where the file system has further names. It has replaced no file, and no
@@ -28,7 +28,7 @@ pub record IsFirst (name file : List ℕ) (old new : List Event) : Type 0 where
   pub moments : has_links new ≡ true → (start : Place) (found : Option (List ℕ)) → Leaves (ever start (about path new)) found
       → (found ≡ Some file) ⊎ Leaves (ever start (about path old)) found
   pub first : replacements (about path new) ≡ replacements (about path old)
-  pub alone : TouchesAlone path old new
+  pub alone : ChangesNoOther path old new
 
 -- a file that is to be the first of its name is made; another one may be made, or one that is there becomes it
 abbrev pub GetsFile : Bool → List ℕ → List ℕ → List Event → List Event → Type 0
@@ -40,14 +40,14 @@ GetsFile false name file old new = IsFirst name file old new ⊎ ((path : List �
 pub record MakesNone (old new : List Event) : Type 0 where
   pub path : List ℕ
   pub there : (start : Place) → IsUnmade (about path new) (replay start (about path old)) (replay start (about path new))
-  pub alone : TouchesAlone path old new
+  pub alone : ChangesNoOther path old new
   pub prints : output new ≡ output old
 
 -- a file that is there, and could only be written in its place, may hold a part of the new bytes
 pub record MayBeInPart (old new : List Event) : Type 0 where
   pub path : List ℕ
   pub in_place : may_replace new ≡ false
-  pub alone : TouchesAlone path old new
+  pub alone : ChangesNoOther path old new
   pub prints : output new ≡ output old
 
 -- The file is made where the command ends well, and where only its line can't be printed. Else none is made, or the ending says that the file

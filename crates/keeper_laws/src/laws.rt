@@ -1,56 +1,61 @@
 //! What a command that ended means for who keeps images.
-ghost use Rattle.std.specs.Prelude.{◌≡◌, ◌≢◌, ◌⊎◌, ◌<◌, ◌∷◌, ◌++◌, ℕ, Bool, true, false, List, [], None, Option, Some, Ok, Result, All};
-ghost use Rattle.std.specs.Global.{Vec};
+ghost use Rattle.std.specs.Prelude.{◌≡◌, ◌≢◌, ◌⊎◌, ◌<◌, ◌∷◌, ◌++◌, ℕ, Bool, true, false, List, [], None, Option, Some, Ok, Result, String, All, map};
+ghost use Rattle.std.specs.Global.{Global, Vec};
 ghost use Rattle.hosts.specs.Event.{Event};
 ghost use Rattle.hosts.specs.Holding.{IsLawful, turns};
+ghost use Rattle.hosts.specs.Place.{Place, about};
 ghost use Rattle.archive_files.specs.declared.forms.GetForm.{GetForm as How};
 ghost use Rattle.archive_files.specs.declared.forms.GetForm.TheVariants as get_as;
 ghost use Rattle.archive_files.specs.declared.forms.PutForm.TheVariants as put_as;
-ghost use Rattle.name_spelling.specs.Patterns.{is_like_one};
+ghost use Rattle.name_spelling.specs.Patterns.{has_pattern, is_like_one};
 ghost use Rattle.name_spelling.specs.Reading.{typed_name};
 ghost use Rattle.archive_files.specs.declared.faults.ArchiveFault.{ArchiveFault as Fault};
 ghost use Rattle.archive_files.specs.Checking.{Checks};
 ghost use Rattle.archive_files.specs.Asking.{OfName, Target, target_of};
+ghost use Rattle.archive_files.specs.declared.asking.Asked.{Asked};
 ghost use Rattle.archive_files.specs.Getting.{Gets, IsTapeOf, line_feeds};
 ghost use Rattle.archive_files.specs.Laws.{whole_blocks};
 ghost use Rattle.archive_many.specs.Laws.{IsNoneOf};
 ghost use Rattle.archive_many.specs.declared.putting.NewFile.{NewFile};
 ghost use Rattle.outcome.specs.declared.endings.Ending.{Ending as End};
 ghost use Rattle.program_tasks.specs.declared.forms.CopyForm.{CopyForm as Copy};
-ghost use Rattle.program_tasks.specs.declared.forms.CopyManyForm.{CopyManyForm as CopyMany};
+ghost use Rattle.program_tasks.specs.declared.forms.CopyChoice.TheVariants.{One, Like};
 ghost use Rattle.program_tasks.specs.declared.forms.CreateForm.{CreateForm as Create};
 ghost use Rattle.program_tasks.specs.declared.forms.DeleteForm.{DeleteForm as Delete};
 ghost use Rattle.program_tasks.specs.declared.forms.ImageForm.{ImageForm as Kept};
 ghost use Rattle.program_tasks.specs.declared.forms.PutFilesForm.{PutFilesForm as Put};
-ghost use Rattle.image_files.specs.Reading.{Opens};
+ghost use Rattle.image_files.specs.Again.{AreAlike};
+ghost use Rattle.image_files.specs.Reading.{Opens, OpensForScript};
 ghost use Rattle.image_files.specs.declared.images.Image.{Image as Opened};
 ghost use Rattle.change_commands.specs.Patching.{PatchesWord};
 ghost use Rattle.change_commands.specs.declared.patches.WordPatch.{WordPatch as Patch};
 ghost use Rattle.salvage_commands.specs.Rescuing.{RescuesImage};
-ghost use Rattle.change_commands.specs.CopyingMany.{CopiesMany, words_in};
 ghost use Rattle.change_commands.specs.Changing.{Renames, Squeezes};
 ghost use Rattle.change_commands.specs.Copying.{Copies, new_name};
 ghost use Rattle.change_commands.specs.Creating.{CreatesFile, CreatesVolume, IsBlankDisk, IsBlankImage, IsBlankTapeFile};
 ghost use Rattle.change_commands.specs.declared.creating.TheConstants.{TAPE_BLOCKS, DISK_BLOCKS};
+ghost use Rattle.change_commands.specs.Choosing.{words_in};
 ghost use Rattle.change_commands.specs.Deleting.{Deletes};
+ghost use Rattle.get_commands.specs.Showing.{Shows};
 ghost use Rattle.keeper_laws.specs.GettingBack.{IsPrinted};
 ghost use Rattle.put_commands.specs.Putting.{Puts, given_name};
-ghost use Rattle.keeper_laws.specs.Changes.{HasDeleted, HasEmptied, HasPatched, HasRenamed, HasSqueezed};
-ghost use Rattle.keeper_laws.specs.Copied.{HasCopied};
-ghost use Rattle.keeper_laws.specs.CopiedAll.{HasCopiedAll};
-ghost use Rattle.keeper_laws.specs.Ended.{EndsAs, RefusesAloud, TouchesItAlone, TouchesOne};
+ghost use Rattle.keeper_laws.specs.Changes.{HasDeleted, HasEmptied, HasPatched, HasRenamed, HasSqueezed, IsWithout};
+ghost use Rattle.keeper_laws.specs.Copied.{HasCopied, copied_name};
+ghost use Rattle.keeper_laws.specs.Ended.{EndsAs, ReadsHeld, RefusesAloud, TouchesItAlone, TouchesOne};
 ghost use Rattle.keeper_laws.specs.Held.{GoesOnStill, IsHeldSince, calls_of};
 ghost use Rattle.keeper_laws.specs.Made.{EndsMade, EndsRescued, HasCreated, HasRescued};
+ghost use Rattle.keeper_laws.specs.Seen.{GivesWhatIsSeen, IsSeen, LooksAndPrints};
 ghost use Rattle.keeper_laws.specs.Sound.{IsSoundWith, kept_names};
 ghost use Rattle.keeper_laws.specs.Stored.{HasStored};
 
 use crate::verb_laws::refused_changes;
 use archive_files::laws::{copied_file, put_is_got};
-use archive_many::laws::{chosen_are_copied, put_many_is_got};
+use archive_many::laws::{chosen_are_copied, chosen_are_gone, put_many_is_got};
 use bin_tape::laws::{longer_tape, no_fault};
 use char_pack::laws::packed_bytes;
 use hosts::laws::lost_updates;
 use image_files::laws::found_again;
+use os8_dir::laws::sound_directory;
 use volume_image::image_round_trip;
 use volume_salvage::laws::salvaged_files;
 
@@ -62,8 +67,6 @@ pub fn ended_changes()
         → EndsAs form.image (HasStored form) result old new }
     ensures copies { (form : Copy) (old : List Event) (result : Result (Unit {0}) End) (new : List Event) → Copies form old result new
         → EndsAs form.to (HasCopied form) result old new }
-    ensures copies_all { (form : CopyMany) (old : List Event) (result : Result (Unit {0}) End) (new : List Event) → CopiesMany form old result new
-        → EndsAs form.to (HasCopiedAll form) result old new }
     ensures squeezes { (form : Kept) (old : List Event) (result : Result (Unit {0}) End) (new : List Event) → Squeezes form old result new
         → EndsAs form (HasSqueezed form) result old new }
     ensures renames { (wanted : Target) (other : List ℕ) (form : Kept) (old : List Event) (result : Result (Unit {0}) End) (new : List Event)
@@ -110,8 +113,6 @@ pub fn touched_files()
         → TouchesItAlone form.image old new }
     ensures copies { (form : Copy) (old : List Event) (result : Result (Unit {0}) End) (new : List Event) → Copies form old result new
         → TouchesItAlone form.to old new }
-    ensures copies_all { (form : CopyMany) (old : List Event) (result : Result (Unit {0}) End) (new : List Event) → CopiesMany form old result new
-        → TouchesItAlone form.to old new }
     ensures squeezes { (form : Kept) (old : List Event) (result : Result (Unit {0}) End) (new : List Event) → Squeezes form old result new
         → TouchesItAlone form old new }
     ensures renames { (wanted : Target) (other : List ℕ) (form : Kept) (old : List Event) (result : Result (Unit {0}) End) (new : List Event)
@@ -142,6 +143,13 @@ pub fn touched_places()
     ended_creations();
     ended_rescues();
 }
+
+/// What a command that changes an image does first, and a run that may save one. The image file is held, if it may be written, and then it is read.
+/// So no other program that holds what it changes comes in between.
+pub fn held_before_read()
+    ensures changes { (form : Kept) (image : Opened) (old new : List Event) → Opens form old (Ok image) new → ReadsHeld form image old new }
+    ensures runs { (form : Kept) (image : Opened) (old new : List Event) → OpensForScript form old (Ok image) new → ReadsHeld form image old new }
+{}
 
 /// Of two programs that change one image none loses the other's change. Once a command has read an image file that it holds, each change of that
 /// file is its own, until it has ended. So what it read is what it changes. That rests on the host: it lets one program alone hold a file, and a
@@ -190,34 +198,60 @@ pub fn put_comes_back()
     put_many_is_got();
 }
 
-/// What `copy` copied, `get` gives of the image file as it was left, in each form: the bytes that it gave of the file that was copied. The copy has
-/// the name that was typed for it, or else the one by which its file was asked for. Each other file is got as before.
+/// What `put` took, `get` prints, if both are run one after the other: the bytes that `put_comes_back` says, of the image file as the host has it then.
+/// In between nothing changes that file. The host gives what is seen of it, and so it was when `put` read it.
+pub fn put_then_got()
+    ensures { (form : Put) (ok : Bool) (old mid : List Event) (stored : HasStored form ok old mid) (name : List ℕ) (how : How) (bytes : List ℕ) (start : Place) (again : Kept)
+        (between : List Event) (result : Result (Unit {0}) End) (new : List Event) → IsPrinted form.image stored.has.file name how bytes → IsSeen start stored.path old stored.was
+        → about stored.path between ≡ about stored.path mid → AreAlike form.image again → again.is_lenient ≡ false
+        → GivesWhatIsSeen start again.file.bytes.items stored.path new → Shows (λ image. Gets image (OfName name) how) again between result new
+        → LooksAndPrints again bytes between result new }
+{
+    found_again();
+}
+
+/// What `delete` took out by words, of which one is a pattern: just the files whose names are like a word. Each other file stays, with its words and
+/// its information words.
+pub fn deleted_by_words()
+    ensures { (form : Delete) (ok : Bool) (old new : List Event) (deleted : HasDeleted form ok old new) → form.places.items ≡ [] → has_pattern (words_in form) ≡ true
+        → IsWithout (words_in form) deleted.image.bytes.items deleted.made.bytes.items }
+{
+    chosen_are_gone();
+}
+
+/// What `copy` copied of one file, `get` gives of the image file as it was left, in each form: the bytes that it gave of the file that was copied.
+/// The copy has the name that was typed for it, or else the one by which its file was asked for. Each other file is got as before.
 pub fn copy_comes_back()
-    ensures copies { (form : Copy) (ok : Bool) (old new : List Event) (copied : HasCopied form ok old new) (name : List ℕ) (how : How) (before : Vec ℕ)
-        → typed_name name ≡ Some copied.made.name → Gets copied.from (target_of form.file) how (Ok before)
-        → IsPrinted form.to copied.has.file name how before.items }
-    ensures typed { (form : Copy) (ok : Bool) (old new : List Event) (copied : HasCopied form ok old new) (name : List ℕ) → new_name form ≡ Some name
-        → typed_name name ≡ Some copied.made.name }
-    ensures kept { (form : Copy) (ok : Bool) (old new : List Event) (copied : HasCopied form ok old new) (name : List ℕ) → new_name form ≡ None
-        → target_of form.file ≡ OfName name → typed_name name ≡ Some copied.made.name }
-    ensures others { (form : Copy) (ok : Bool) (old new : List Event) (copied : HasCopied form ok old new) (name : List ℕ) (how : How) (before : Vec ℕ)
-        → typed_name name ≢ Some copied.made.name → Gets copied.image.bytes.items (OfName name) how (Ok before)
-        → IsPrinted form.to copied.has.file name how before.items }
+    ensures copies { (form : Copy) (file : Asked) (other : Option (String Global)) (ok : Bool) (old new : List Event) (copied : HasCopied form ok old new)
+        (name : List ℕ) (how : How) (before : Vec ℕ) → form.files ≡ One file other → typed_name name ≡ Some (copied_name (new_name form.files) copied.files)
+        → Gets copied.from (target_of file) how (Ok before) → IsPrinted form.to copied.has.file name how before.items }
+    ensures typed { (form : Copy) (file : Asked) (other : Option (String Global)) (ok : Bool) (old new : List Event) (copied : HasCopied form ok old new)
+        (name : List ℕ) → form.files ≡ One file other → new_name form.files ≡ Some name
+        → typed_name name ≡ Some (copied_name (new_name form.files) copied.files) }
+    ensures kept { (form : Copy) (file : Asked) (other : Option (String Global)) (ok : Bool) (old new : List Event) (copied : HasCopied form ok old new)
+        (name : List ℕ) → form.files ≡ One file other → new_name form.files ≡ None → target_of file ≡ OfName name
+        → typed_name name ≡ Some (copied_name (new_name form.files) copied.files) }
+    ensures others { (form : Copy) (file : Asked) (other : Option (String Global)) (ok : Bool) (old new : List Event) (copied : HasCopied form ok old new)
+        (name : List ℕ) (how : How) (before : Vec ℕ) → form.files ≡ One file other → typed_name name ≢ Some (copied_name (new_name form.files) copied.files)
+        → Gets copied.image.bytes.items (OfName name) how (Ok before) → IsPrinted form.to copied.has.file name how before.items }
 {
     image_round_trip();
     longer_tape();
     no_fault();
+    sound_directory();
     copied_file();
 }
 
-/// What `copy` of several files copied, `get` gives of the image file as it was left. In each form these are the bytes that it gave of the file that
-/// a word chose. A file whose name is like no word is got as before.
+/// What `copy` copied of files that words choose, `get` gives of the image file as it was left. In each form these are the bytes that it gave of the
+/// file that a word chose. A file whose name is like no word is got as before.
 pub fn copies_come_back()
-    ensures copies { (form : CopyMany) (ok : Bool) (old new : List Event) (copied : HasCopiedAll form ok old new) (name : List ℕ) (number : ℕ) (how : How)
-        (before : Vec ℕ) → typed_name name ≡ Some number → is_like_one (words_in form) number ≡ true → Gets copied.from (OfName name) how (Ok before)
+    ensures copies { (form : Copy) (words : Vec (String Global)) (is_forced ok : Bool) (old new : List Event) (copied : HasCopied form ok old new)
+        (name : List ℕ) (number : ℕ) (how : How) (before : Vec ℕ) → form.files ≡ Like words is_forced → typed_name name ≡ Some number
+        → is_like_one (map (λ word. word.bytes.items) words.items) number ≡ true → Gets copied.from (OfName name) how (Ok before)
         → IsPrinted form.to copied.has.file name how before.items }
-    ensures others { (form : CopyMany) (ok : Bool) (old new : List Event) (copied : HasCopiedAll form ok old new) (name : List ℕ) (number : ℕ) (how : How)
-        (before : Vec ℕ) → typed_name name ≡ Some number → is_like_one (words_in form) number ≡ false → Gets copied.image.bytes.items (OfName name) how (Ok before)
+    ensures others { (form : Copy) (words : Vec (String Global)) (is_forced ok : Bool) (old new : List Event) (copied : HasCopied form ok old new)
+        (name : List ℕ) (number : ℕ) (how : How) (before : Vec ℕ) → form.files ≡ Like words is_forced → typed_name name ≡ Some number
+        → is_like_one (map (λ word. word.bytes.items) words.items) number ≡ false → Gets copied.image.bytes.items (OfName name) how (Ok before)
         → IsPrinted form.to copied.has.file name how before.items }
 {
     image_round_trip();

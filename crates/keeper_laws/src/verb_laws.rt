@@ -1,17 +1,12 @@
 //! What commands of several verbs leave as it was, and what they get back, as laws.
-ghost use Rattle.std.specs.Prelude.{◌≡◌, Bool, ℕ, false, List, Option, Ok, Err, Result};
+ghost use Rattle.std.specs.Prelude.{◌≡◌, Bool, ℕ, false, List, Ok, Result};
 ghost use Rattle.hosts.specs.Event.{Event};
-ghost use Rattle.hosts.specs.Place.{about};
 ghost use Rattle.archive_files.specs.Asking.{Target, target_of};
 ghost use Rattle.archive_files.specs.Getting.{Gets};
 ghost use Rattle.archive_many.specs.declared.putting.NewFile.{NewFile};
 ghost use Rattle.archive_files.specs.declared.forms.GetForm.{GetForm as How};
-ghost use Rattle.refusals.specs.declared.faults.SessionFault.{SessionFault as Refused};
-ghost use Rattle.program_reports.specs.declared.programs.ProgramLine.{ProgramLine as Printed};
 ghost use Rattle.outcome.specs.declared.endings.Ending.{Ending};
-ghost use Rattle.outcome.specs.declared.endings.Ending.TheVariants.{Fault, Line};
 ghost use Rattle.program_tasks.specs.declared.forms.CopyForm.{CopyForm as Copy};
-ghost use Rattle.program_tasks.specs.declared.forms.CopyManyForm.{CopyManyForm as CopyMany};
 ghost use Rattle.program_tasks.specs.declared.forms.DeleteForm.{DeleteForm as Delete};
 ghost use Rattle.archive_files.specs.declared.asking.Asked.{Asked as File};
 ghost use Rattle.program_tasks.specs.declared.forms.ImageForm.{ImageForm as Seen};
@@ -23,7 +18,6 @@ ghost use Rattle.image_files.specs.declared.images.Image.{Image as Opened};
 ghost use Rattle.image_files.specs.declared.reading.ImagePlace.{ImagePlace as Held};
 ghost use Rattle.change_commands.specs.Changing.{Squeezes, Renames};
 ghost use Rattle.change_commands.specs.Copying.{Copies};
-ghost use Rattle.change_commands.specs.CopyingMany.{CopiesMany};
 ghost use Rattle.change_commands.specs.Deleting.{Deletes};
 ghost use Rattle.get_commands.specs.Showing.{Shows};
 ghost use Rattle.get_commands.specs.Texts.{ShowsTexts};
@@ -39,7 +33,7 @@ use image_files::laws::{found_again, kept_files, kept_kind};
 use put_commands::laws::refused_puts;
 use volume_image::image_round_trip;
 
-/// A command that is to change an image, and is refused, has changed no file: none is deleted of several.
+/// A command that is to change an image, and is refused, has changed no file: none is copied or deleted of several.
 pub fn refused_changes()
     ensures puts { (form : Put) → LeavesFiles (Puts form) }
     ensures deletes { (form : Delete) → LeavesFiles (Deletes form) }
@@ -72,15 +66,10 @@ pub fn file_comes_back()
     kept_kind();
 }
 
-/// A list of some files, or the texts of some, change no file of the host, in whichever way they end. A copy of several that is refused, by a
-/// fault or by a line, has changed none.
+/// A list of some files, or the texts of some, change no file of the host, in whichever way they end.
 pub fn unchanged_files()
     ensures lists { (form : Listed) → KeepsFiles (ListsSome form) }
     ensures texts { (image : Seen) (is_all : Bool) (words : List (List ℕ)) (places : List ℕ) → KeepsFiles (ShowsTexts image is_all words places) }
-    ensures faults { (form : CopyMany) (fault : Refused) (old new : List Event) → CopiesMany form old (Err (Fault fault)) new
-        → (path : List ℕ) → about path new ≡ about path old }
-    ensures lines { (form : CopyMany) (line : Printed) (old new : List Event) → CopiesMany form old (Err (Line line)) new
-        → (path : List ℕ) → about path new ≡ about path old }
 {
     kept_files();
 }

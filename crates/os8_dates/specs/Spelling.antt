@@ -1,5 +1,5 @@
 -- How dates are spelled (this project's profile).
-use Rattle.std.specs.Prelude.{ℕ, zero, ◌+◌, ◌-◌, ◌*◌, ◌/◌, ◌%◌, nat_eq, nat_le, ◌&&◌, if◌then◌else◌, Option, Some, None, List, [], ◌∷◌}
+use Rattle.std.specs.Prelude.{ℕ, ◌+◌, ◌-◌, ◌*◌, ◌/◌, ◌%◌, nat_eq, ◌&&◌, if◌then◌else◌, Option, Some, None, List, [], ◌∷◌}
 use Rattle.word12.specs.Octal.{octal4}
 use Rattle.word12.specs.Sixbit.{is_digit}
 use Rattle.os8_dates.specs.declared.dates.Date.{Date}

@@ -1,10 +1,11 @@
 //! Dates as they are spelled: the year, the month and the day in digits, with `-` between.
-ghost use Rattle.std.specs.Prelude.{◌≡◌, ◌≤◌, ◌<◌, ◌++◌, OnOk, IfSome};
+ghost use Rattle.std.specs.Prelude.{◌≡◌, ◌≤◌, ◌<◌, ◌++◌, OnOk, IfSome, Some};
 ghost use Rattle.os8_dates.specs.Spelling.{digit, if_day, date_if_numbers, parsed_date, number_of, text_of_date, spelled_date};
 ghost use Rattle.os8_dates.specs.declared.years.TheConstants.{LEAST_LAST, LAST_YEAR};
 
 use crate::dates::{Date, date_of, is_calendar_day};
 use std::alloc::AllocError;
+use std::fmt;
 use word12::Word;
 
 /// Appends what a date word means among the eight years up to this last one. It is `-` where the word is 0, and no date is given; a date;
@@ -21,6 +22,15 @@ pub fn put_date(text: &mut Vec<u8>, word: Word, last: u16) -> Result<(), AllocEr
     match date_of(word, last) {
         Some(date) => text.extend_from_slice(&spelled_date(date)),
         None => text.extend_from_slice(&word.octal4()),
+    }
+}
+
+/// A date is shown in digits: four of the year, two of the month and two of the day, with `-` between (this project's profile).
+impl fmt::Display for Date {
+    ghost output = { λ date. Some (spelled_date date) };
+
+    fn fmt<W: fmt::Write>(&self, f: &mut fmt::Formatter<W>) -> fmt::Result {
+        f.write_str(str::from_utf8(&spelled_date(*self)).map_err(|_| fmt::Error)?)
     }
 }
 

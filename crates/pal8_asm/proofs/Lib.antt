@@ -6,5 +6,6 @@ pub mod ReachLemmas
 pub mod SkippingLemmas
 pub mod SourceLemmas
 pub mod TakingLemmas
+pub mod WalkLemmas
 pub mod WholeLemmas
 pub mod WorkedSources

@@ -21,7 +21,8 @@ use Rattle.pal8_asm.specs.Kept.{cut, entry_of, total}
 use Rattle.pal8_places.specs.Places.{code_of}
 use Rattle.pal8_asm.specs.Sources.{Entry, at_place, entry_with, number_or, resolved_step, with_values}
 use Rattle.pal8_asm.specs.Tapes.{TapeWords, clash_fault, first_of, is_last_late, late_after, late_fault, late_value, late_values, spot_of, unless_fault, with_entries, with_entry, with_entry_by, with_made, with_word_entry}
-use Rattle.pal8_asm.specs.Steps.{AddsPool, GivesAt, IsFaultAt, IsJudgedLate, IsMaking, Makes, fault_at}
+use Rattle.pal8_asm.specs.Making.{IsMaking}
+use Rattle.pal8_asm.specs.Steps.{AddsPool, GivesAt, IsFaultAt, IsJudgedLate, Makes, fault_at}
 use Rattle.pal8_asm.specs.declared.faults.Fault.{Fault}
 use Rattle.pal8_asm.specs.declared.faults.Place.{Place}
 use Rattle.pal8_asm.specs.declared.entries.Head.{Head}

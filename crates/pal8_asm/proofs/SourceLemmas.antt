@@ -15,11 +15,13 @@ use Rattle.pal8_asm.specs.Sources.{Remainder, Source, at_place, end_of_pass, sta
 use Rattle.pal8_places.specs.Brackets.{has_none, is_selected}
 use Rattle.pal8_asm.specs.declared.faults.Fault.{Fault}
 use Rattle.pal8_asm.specs.declared.faults.Place.{Place}
-use Rattle.pal8_asm.specs.Steps.{Closes, HasReadAll, HasTaken, IsMaking, IsOnTheWay, Makes, Pushes, ReadsOn, TakesByte}
+use Rattle.pal8_asm.specs.Making.{IsMaking, IsMakingIn}
+use Rattle.pal8_asm.specs.Steps.{Closes, HasReadAll, HasTaken, IsOnTheWay, MakesIn, ReadsOn, TakesByte}
 use Rattle.pal8_asm.specs.Assembling.{IsMade, MakesWords, Progress, ReadsText, remainder_of}
 use Rattle.pal8_asm.specs.Tapes.{TapeWords, without_clash, unless_clash, nothing_made}
 use Rattle.pal8_pools.specs.Pooled.{Holds, PoolTable}
 use Rattle.pal8_pools.specs.Clashes.{AreMarks}
+use Rattle.pal8_asm.specs.declared.words.MadeWords.{MadeWords}
 use Rattle.pal8_asm.specs.declared.faults.AsmFault.{AsmFault}
 use Rattle.pal8_places.specs.declared.options.Options.{Options}
 use Rattle.pal8_asm.specs.declared.faults.AsmFault.TheVariants.{At, Memory}
@@ -76,10 +78,6 @@ byte_ends_none here b is = by_drop (is_dropped b) is
         → statements_of (if test then live here else (as_read b, length here) ∷ live here) ≡ statements here
     by_drop true is = refl
     by_drop false is = by_end (ends (pieces (live here)) (as_read b)) is
-
-pub pushes : (here : List ℕ) (b : ℕ) (ends : Bool) (new : lex.Progress) → lex.Answers here b (Ok ends) new → Pushes here b (Ok ends) new
-pushes here b true new it = (it.0, byte_ends_one here b (statement_of (as_read b) (live here)) it.1, it.2)
-pushes here b false new it = (byte_ends_none here b it.0, it.1)
 
 -- ## What follows
 
@@ -221,19 +219,16 @@ starts_making pools marks clash pairs holds marked none empty = record {
   free = λ is. refl;
 }
 
-pub words_fail : (whole : Result TapeWords Fault) (fault : AsmFault) (pools pools' : PoolTable) (marks : List Bool) (clash : Option Fault) (pairs : List (ℕ × ℕ))
-    → Makes whole (Err fault) pools marks clash pairs → MakesWords (without_clash whole) (Err fault) pools'
-words_fail whole (At code place) pools pools' marks clash pairs is = ap without_clash is
-words_fail whole Memory pools pools' marks clash pairs is = tt
+pub words_fail : (whole : Result TapeWords Fault) (fault : AsmFault) (made : MadeWords) → MakesIn whole (Err fault) made → MakesWords (without_clash whole) (Err fault)
+words_fail whole (At code place) made is = ap without_clash is
+words_fail whole Memory made is = tt
 
-pub words_clash : (whole : Result TapeWords Fault) (pools pools' : PoolTable) (marks : List Bool) (clash : Option Fault) (pairs : List (ℕ × ℕ)) (fault : Fault)
-    → IsMaking whole pools marks clash pairs → clash ≡ Some fault → MakesWords (without_clash whole) (Err (At fault.code fault.place)) pools'
-words_clash whole pools pools' marks clash pairs fault making is =
-    ap without_clash making.is_whole ∙ ap (unless_clash making.made) (sym making.clashes ∙ is)
+pub words_clash : (whole : Result TapeWords Fault) (made : MadeWords) (fault : Fault) → IsMakingIn whole made → made.clash ≡ Some fault
+    → MakesWords (without_clash whole) (Err (At fault.code fault.place))
+words_clash whole made fault making is = ap without_clash making.is_whole ∙ ap (unless_clash making.made) (sym making.clashes ∙ is)
 
-pub words_clear : (whole : Result TapeWords Fault) (pools : PoolTable) (marks : List Bool) (clash : Option Fault) (pairs : List (ℕ × ℕ))
-    → IsMaking whole pools marks clash pairs → clash ≡ None → IsMade (without_clash whole) pools pairs
-words_clear whole pools marks clash pairs making is = record {
+pub words_clear : (whole : Result TapeWords Fault) (made : MadeWords) → IsMakingIn whole made → made.clash ≡ None → IsMade (without_clash whole) made.pools made.pairs.items
+words_clear whole made making is = record {
   made = making.made;
   is_whole = ap without_clash making.is_whole ∙ ap (unless_clash making.made) (sym making.clashes ∙ is);
   words = making.words;

@@ -39,9 +39,9 @@ module _ (options : Options) (text : List ℕ) (a : Progress) where
   whole = without_clash (words_of_entries (own_value a.names.table) (is_late a.names) a.entries)
 
   -- a word has one
-  pub word_fails : (code : Code) (place end : Place) (pools : PoolTable) → ReadsText options text (Ok end) a → MakesWords whole (Err (At code place)) pools
+  pub word_fails : (code : Code) (place end : Place) → ReadsText options text (Ok end) a → MakesWords whole (Err (At code place))
       → result_of_text options text ≡ Err (at_place place code)
-  word_fails code place end pools reads is = ap result_of_source reads.0 ∙ ap (result_if_any_word (dollar_in a.end)) is
+  word_fails code place end reads is = ap result_of_source reads.0 ∙ ap (result_if_any_word (dollar_in a.end)) is
 
   -- there is none
   pub no_word : (end : Place) (pools : PoolTable) (pairs : List (ℕ × ℕ)) → ReadsText options text (Ok end) a → IsMade whole pools pairs → has_words pairs ≡ false

@@ -12,6 +12,7 @@ use Rattle.pal8_asm.specs.declared.faults.Fault.{Fault}
 use Rattle.pal8_asm.specs.declared.faults.Place.{Place}
 use Rattle.pal8_asm.specs.declared.faults.AsmFault.{AsmFault}
 use Rattle.pal8_asm.specs.declared.faults.AsmFault.TheVariants as asm
+use Rattle.pal8_asm.specs.declared.words.MadeWords.{MadeWords}
 use Rattle.pal8_places.specs.declared.options.Options.{Options}
 use Rattle.pal8_places.specs.declared.places.Position.{Position}
 
@@ -47,10 +48,10 @@ pub record IsMade (whole : Result TapeWords Fault) (pools : PoolTable) (pairs : 
   pub holds : Holds pools made.asks made.punched
 
 -- the words are answered, and the pools hold what they asked; or the first fault of a word; or memory ran out
-abbrev pub MakesWords : Result TapeWords Fault → Result (Vec (ℕ × ℕ)) AsmFault → PoolTable → Type 0
-MakesWords whole (Ok pairs) pools = IsMade whole pools pairs.items
-MakesWords whole (Err (asm.At code place)) pools = whole ≡ Err (at_place place code)
-MakesWords whole (Err asm.Memory) pools = Unit {0}
+abbrev pub MakesWords : Result TapeWords Fault → Result MadeWords AsmFault → Type 0
+MakesWords whole (Ok made) = IsMade whole made.pools made.pairs.items
+MakesWords whole (Err (asm.At code place)) = whole ≡ Err (at_place place code)
+MakesWords whole (Err asm.Memory) = Unit {0}
 
 -- The pairs are the punched words of what was made, and then each cell that they ask for with its value, by rising cell.
 pub record IsAssembled (whole : Result TapeWords Fault) (pairs : List (ℕ × ℕ)) : Type 0 where

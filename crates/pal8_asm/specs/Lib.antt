@@ -6,6 +6,8 @@ pub mod Marks
 pub mod Laws
 pub mod Reaching
 pub mod Assembling
+pub mod Walking
+pub mod Making
 pub mod Steps
 pub mod MarkSteps
 pub mod Pushing

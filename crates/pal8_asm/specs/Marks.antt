@@ -1,6 +1,6 @@
 -- What a listing shows of a text beside its words: where they begin, which are links, and what its names stand for at last (PAL8, in this project's
 -- profile).
-use Rattle.std.specs.Prelude.{◌≡◌, ℕ, nat_eq, bit_and, Bool, true, false, ◌&&◌, not, if◌then◌else◌, is_some, Option, None, Result, Ok, Err, length, List, [], ◌∷◌, ◌++◌}
+use Rattle.std.specs.Prelude.{◌≡◌, ℕ, nat_eq, bit_and, Bool, true, false, ◌&&◌, not, if◌then◌else◌, is_some, None, Result, Ok, Err, length, List, [], ◌∷◌, ◌++◌}
 use Rattle.std.specs.Ordering.{nat_cmp}
 use Rattle.std.specs.BTreeMap.{get}
 use Rattle.pal_sym.specs.Values.{if_none}

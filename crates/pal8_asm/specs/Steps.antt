@@ -1,15 +1,13 @@
 -- What the small steps of a pass give, for private clauses.
 use Rattle.pal8_asm.specs.Assembling.{Progress, remainder_of}
-use Rattle.pal8_places.specs.Passing.{open_of, standing}
-use Rattle.std.specs.Prelude.{◌≡◌, ℕ, ◌-◌, Bool, true, false, length, Option, Some, None, Result, Ok, Err, List, ◌∷◌, ◌++◌}
+use Rattle.pal8_places.specs.Passing.{open_of}
+use Rattle.std.specs.Prelude.{◌≡◌, ℕ, Bool, true, false, length, Option, Some, None, Result, Ok, Err, List, ◌++◌}
+use Rattle.pal8_places.specs.declared.faults.Stop.{Stop}
+use Rattle.pal8_places.specs.declared.faults.Stop.TheVariants.{At, Memory}
 use Rattle.pal8_places.specs.declared.names.KnownNames.{KnownNames}
 use Rattle.pal_lex.specs.Text.{limit, text_from}
 use Rattle.pal8_lex.specs.Reading.{HasRead, last_statement}
-use Rattle.pal8_lex.specs.Text.{as_read, live}
-use Rattle.pal8_lex.specs.Statements.{statement_of}
 use Rattle.pal8_lex.specs.Reading as lex
-use Rattle.pal8_grammar.specs.declared.bodies.Body.{Body}
-use Rattle.pal8_grammar.specs.declared.steps.Step.{Step}
 use Rattle.pal8_grammar.specs.SourceNames.{names_of, own_value}
 use Rattle.std.specs.Ordering.{nat_cmp}
 use Rattle.std.specs.BTreeMap.{get}
@@ -17,20 +15,25 @@ use Rattle.pal8_values.specs.Sums.{Meanings}
 use Rattle.pal8_asm.specs.declared.late.LateValues.{LateValues}
 use Rattle.pal8_pools.specs.Asks.{Ask}
 use Rattle.pal8_pools.specs.Cells.{ArePairs}
-use Rattle.pal8_pools.specs.Pooled.{Holds, PoolTable}
+use Rattle.pal8_pools.specs.Pooled.{PoolTable}
 use Rattle.pal8_values.specs.Answering.{IsAsked}
 use Rattle.pal8_values.specs.Words.{AskResult}
-use Rattle.pal8_places.specs.Places.{Standing, code_of, spot_at}
+use Rattle.pal8_places.specs.Places.{code_of}
 use Rattle.pal8_asm.specs.Tapes.{TapeWords}
-use Rattle.pal8_pools.specs.Clashes.{AreMarks, lowest_clash}
-use Rattle.pal8_asm.specs.Sources.{Entry, PassResult, at_place, statement_at, pass_over, statements, with_entries, with_late_entry, words_in}
+use Rattle.pal8_asm.specs.Sources.{Entry, PassResult, at_place, pass_over, statements, with_entries, with_late_entry, words_in}
+use Rattle.pal8_asm.specs.Kept.{entry_of}
+use Rattle.pal8_asm.specs.Making.{IsMaking, IsMakingIn}
+use Rattle.pal8_asm.specs.Walking.{remainder_after}
+use Rattle.pal8_asm.specs.declared.entries.Content.{Content}
+use Rattle.pal8_asm.specs.declared.entries.Stand.{Stand}
+use Rattle.pal8_asm.specs.declared.walks.Walk.{Walk}
+use Rattle.pal8_asm.specs.declared.words.MadeWords.{MadeWords}
+use Rattle.pal8_asm.specs.declared.words.WordSource.{WordSource}
 use Rattle.pal8_asm.specs.declared.faults.Fault.{Fault}
 use Rattle.pal8_asm.specs.declared.faults.Place.{Place}
 use Rattle.pal8_asm.specs.declared.faults.AsmFault.{AsmFault}
 use Rattle.pal8_asm.specs.declared.faults.AsmFault.TheVariants as asm
-use Rattle.pal8_places.specs.declared.faults.Code.{Code}
 use Rattle.pal8_places.specs.declared.options.Options.{Options}
-use Rattle.pal8_places.specs.declared.places.Position.{Position}
 
 -- ## Names
 
@@ -41,40 +44,24 @@ entry_meaning names true = own_value names.table
 
 -- ## Statements
 
--- the end of a statement is passed, and these brackets are open then, or its fault is answered; or memory ran out
-abbrev pub PassesEnd : Result (List Bool) Fault → Result (Unit {0}) AsmFault → List Bool → Type 0
-PassesEnd whole (Ok nothing) brackets = whole ≡ Ok brackets
-PassesEnd whole (Err (asm.At code place)) brackets = whole ≡ Err (at_place place code)
-PassesEnd whole (Err asm.Memory) brackets = Unit {0}
+-- a statement is taken, or its fault is answered; or memory ran out
+abbrev pub TakesStatement : PassResult → Result (Unit {0}) AsmFault → Walk → List Entry → Option Place → Type 0
+TakesStatement whole (Ok nothing) walk entries end = whole ≡ Ok (remainder_after walk entries end)
+TakesStatement whole (Err (asm.At code place)) walk entries end = whole ≡ Err (at_place place code)
+TakesStatement whole (Err asm.Memory) walk entries end = Unit {0}
 
--- a statement is taken at a position, or its fault is answered; or memory ran out
-abbrev pub TakesStatement : PassResult → Result Position AsmFault → KnownNames → List Entry → List Bool → Option Place → Type 0
-TakesStatement whole (Ok next) table entries brackets end = whole ≡ Ok record { standing = standing table next; entries = entries; brackets = brackets; end = end }
-TakesStatement whole (Err (asm.At code place)) table entries brackets end = whole ≡ Err (at_place place code)
-TakesStatement whole (Err asm.Memory) table entries brackets end = Unit {0}
+-- entries with what a statement leaves to be made, which stands there
+abbrev pub with_content : Options → KnownNames → Stand → Content → ℕ → List Entry → List Entry
+with_content options names stand content size entries = with_late_entry stand.place stand.spot content.body content.steps.now (names_of names.table)
+    (with_entries stand.place stand.spot (words_in options content.body (open_of names) content.steps.now content.string.now size) entries)
 
--- What a statement does to names and places was done, and its words are kept.
-pub record IsTaken (whole : Result Standing Code) (place : Place) (body : Body) (steps : List Step) (string : List ℕ) (before next : Position) (old : List Entry)
-    (table : KnownNames) (new : List Entry) : Type 0 where
-  pub passed : whole ≡ Ok (standing table next)
-  pub words : new ≡ with_late_entry place (spot_at before) body steps (names_of table.table)
-      (with_entries place (spot_at before) (words_in before.options body (open_of table) steps string (next.location - before.location)) old)
-
-abbrev pub TakesBody : Result Standing Code → Place → Body → List Step → List ℕ → Position → List Entry → Result Position AsmFault → KnownNames → List Entry → Type 0
-TakesBody whole place body steps string before old (Ok next) table new = IsTaken whole place body steps string before next old table new
-TakesBody whole place body steps string before old (Err (asm.At code place')) table new = (whole ≡ Err code) × (place' ≡ place)
-TakesBody whole place body steps string before old (Err asm.Memory) table new = Unit {0}
+-- the end of a statement with this place is passed, and these brackets are open then, or its fault is answered; or memory ran out
+abbrev pub PassesEnd : Place → Result (List Bool) Fault → Result (Unit {0}) Stop → List Bool → Type 0
+PassesEnd place whole (Ok nothing) brackets = whole ≡ Ok brackets
+PassesEnd place whole (Err (At code)) brackets = whole ≡ Err (at_place place code)
+PassesEnd place whole (Err Memory) brackets = Unit {0}
 
 -- ## Texts
-
--- the answer for a byte after others: whether it ends a statement, which is then shown
-abbrev pub Pushes : List ℕ → ℕ → Result Bool AsmFault → lex.Progress → Type 0
-Pushes here b (Ok true) new =
-    (last_statement new ≡ Some (statement_of (as_read b) (live here)))
-    × (statements (b ∷ here) ≡ statement_at (limit (length here)) (statement_of (as_read b) (live here)) ∷ statements here) × HasRead new (b ∷ here)
-Pushes here b (Ok false) new = (statements (b ∷ here) ≡ statements here) × HasRead new (b ∷ here)
-Pushes here b (Err (asm.At code place)) new = ⊥
-Pushes here b (Err asm.Memory) new = Unit {0}
 
 -- These bytes were read, and what they leave is taken.
 pub record HasTaken (options : Options) (here : List ℕ) (lexer : lex.Progress) (a : Progress) : Type 0 where
@@ -117,6 +104,10 @@ Closes whole (Err asm.Memory) a = Unit {0}
 abbrev pub late_of : LateValues → Meanings
 late_of late n = get nat_cmp late.values n
 
+-- a word with its own steps
+abbrev pub entry_in : WordSource → Entry
+entry_in source = entry_of source.head.now source.steps.now
+
 -- the fault of a word at this place
 abbrev pub fault_at : Place → AskResult → Result (ℕ × List Ask × List Ask) Fault
 fault_at place (Err fault) = Err (at_place place (code_of fault))
@@ -138,21 +129,14 @@ IsJudgedLate fault (Ok nothing) = fault ≡ None
 IsJudgedLate fault (Err (asm.At code place)) = fault ≡ Some (at_place place code)
 IsJudgedLate fault (Err asm.Memory) = Unit {0}
 
--- Entries were made, after others: these are the words so far, with their cells, the first clash, and the pools hold what was asked.
-pub record IsMaking (whole : Result TapeWords Fault) (pools : PoolTable) (marks : List Bool) (clash : Option Fault) (pairs : List (ℕ × ℕ)) : Type 0 where
-  pub made : TapeWords
-  pub is_whole : whole ≡ Ok made
-  pub words : pairs ≡ made.words
-  pub holds : Holds pools made.asks made.punched
-  pub marked : AreMarks marks made.words
-  pub clashes : clash ≡ made.clash
-  pub free : made.clash ≡ None → lowest_clash made.asks made.words ≡ None
-
 -- what making entries gives, or the first fault of a word; or memory ran out
 abbrev pub Makes : Result TapeWords Fault → Result (Unit {0}) AsmFault → PoolTable → List Bool → Option Fault → List (ℕ × ℕ) → Type 0
 Makes whole (Ok nothing) pools marks clash pairs = IsMaking whole pools marks clash pairs
 Makes whole (Err (asm.At code place)) pools marks clash pairs = whole ≡ Err (at_place place code)
 Makes whole (Err asm.Memory) pools marks clash pairs = Unit {0}
+
+abbrev pub MakesIn : Result TapeWords Fault → Result (Unit {0}) AsmFault → MadeWords → Type 0
+MakesIn whole result made = Makes whole result made.pools made.cells made.clash made.pairs.items
 
 -- The pairs of pools come after others, by rising cell.
 pub record AddsPool (asks punched : List Ask) (old new : List (ℕ × ℕ)) : Type 0 where

@@ -56,19 +56,18 @@ fn read_whole(alloc: Global, options: Options, text: &[u8]) -> Result<Whole, Asm
         Ok(end) => end,
         Err(fault) => return Err(fault),
     };
-    let mut pools = Pools::new(alloc);
-    let mut pairs = match assembler.words(alloc, &mut pools) {
-        Ok(pairs) => pairs,
+    let mut made = match assembler.words(alloc) {
+        Ok(made) => made,
         Err(fault) => return Err(fault),
     };
-    if pairs.is_empty() {
+    if made.pairs.is_empty() {
         return Err(AsmFault::At(Code::NW, end));
     }
-    let word_count = pairs.len();
-    push_pool(&mut pairs, &pools)?;
+    let word_count = made.pairs.len();
+    push_pool(&mut made.pairs, &made.pools)?;
     Ok(Whole {
         assembler,
-        pairs,
+        pairs: made.pairs,
         word_count,
     })
 }

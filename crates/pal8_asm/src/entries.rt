@@ -6,7 +6,8 @@ ghost use Rattle.std.specs.Ordering.{nat_cmp};
 ghost use Rattle.std.specs.BTreeMap.{get};
 ghost use Rattle.pal8_places.specs.Passing.{is_late, open_of};
 ghost use Rattle.pal8_asm.specs.Marks.{last_values, marks_of};
-ghost use Rattle.pal8_asm.specs.Steps.{IsMaking, Makes, entry_meaning};
+ghost use Rattle.pal8_asm.specs.Making.{IsMakingIn};
+ghost use Rattle.pal8_asm.specs.Steps.{MakesIn, entry_meaning, with_content};
 ghost use Rattle.pal8_asm.specs.declared.faults.Fault.{Fault};
 ghost use Rattle.pal8_grammar.specs.declared.steps.Step.{Step};
 ghost use Rattle.pal8_places.specs.Places.{text_size};
@@ -14,13 +15,12 @@ ghost use Rattle.pal8_asm.specs.Sources.{Entry, entry_at, entry_with, fixed_valu
 
 use crate::late::LateValues;
 use crate::marks::{Mark, marks_of};
-use crate::words::make_all;
-use crate::{AsmFault, Fault, Place};
+use crate::words::{MadeWords, make_all};
+use crate::{AsmFault, Place};
 use pal8_grammar::{Body, SourceNames, Step};
 use pal8_lex::Name;
 use pal8_places::{KnownNames, Options, has_later};
-use pal8_pools::{Pools, WordCells};
-use pal8_values::{Frames, Spot, here_of};
+use pal8_values::{Spot, here_of};
 use std::alloc::{AllocError, Global};
 use std::collections::BTreeMap;
 use std::marker::Model;
@@ -55,6 +55,21 @@ pub struct Late {
     pub kept_value: Option<Word>,
     /// Whether `.` is past 7777 there.
     pub is_past: bool,
+}
+
+/// Where a word stands, and the place of its statement in the text.
+#[derive(Clone, Copy)]
+pub struct Stand {
+    pub place: Place,
+    pub spot: Spot,
+}
+
+/// What a statement says: its body, with the steps of its value, and its string.
+#[derive(Clone, Copy)]
+pub struct Content<'s> {
+    pub body: Body,
+    pub steps: &'s [Step],
+    pub string: &'s [u8],
 }
 
 /// The words that are to be made, in the order of the source.
@@ -128,6 +143,16 @@ fn next_spot(spot: Spot) -> Spot
     }
 }
 
+/// Where the next word of a statement stands.
+fn next_stand(stand: Stand) -> Stand
+    ensures { result ≡ record { place = stand.place; spot = next_spot stand.spot } }
+{
+    Stand {
+        place: stand.place,
+        spot: next_spot(stand.spot),
+    }
+}
+
 /// The cell of a word that stands there.
 fn cell_of(spot: Spot) -> Cell
     requires { spot.field < 8 }
@@ -194,18 +219,19 @@ impl Entries {
         names: &KnownNames,
         late: Option<Late>,
         is_late: bool,
-        place: Place,
-        spot: Spot,
+        stand: Stand,
         steps: &[Step],
     ) -> Result<(), AllocError>
-        requires { spot.field < 8 }
-        ensures { OnOk result (self.new ≡ self.old ++ entry_with late place spot (with_values (entry_meaning names.now is_late) steps.now) ∷ []) }
+        requires { stand.spot.field < 8 }
+        ensures { OnOk result (self.new ≡ self.old
+            ++ entry_with late stand.place stand.spot (with_values (entry_meaning names.now is_late) steps.now) ∷ []) }
     {
+        let spot = stand.spot;
         self.heads.reserve(1)?;
         self.steps.reserve(steps.len())?;
         put_steps(&mut self.steps, names, is_late, steps);
         self.heads.push_reserved(Head {
-            place,
+            place: stand.place,
             cell: cell_of(spot),
             here: Word::low(spot.here),
             is_punched: spot.is_punched,
@@ -222,32 +248,25 @@ impl Entries {
     fn push_number(
         &mut self,
         names: &KnownNames,
-        place: Place,
-        spot: Spot,
+        stand: Stand,
         word: Word,
     ) -> Result<(), AllocError>
-        requires { spot.field < 8 }
-        ensures { OnOk result (self.new ≡ self.old ++ entry_at place spot (number word) ∷ []) }
+        requires { stand.spot.field < 8 }
+        ensures { OnOk result (self.new ≡ self.old ++ entry_at stand.place stand.spot (number word) ∷ []) }
     {
-        self.push(names, None, false, place, spot, &[Step::Number(word)])
+        self.push(names, None, false, stand, &[Step::Number(word)])
     }
 
     /// Puts so many zeros after the others.
-    fn push_zeros(
-        &mut self,
-        names: &KnownNames,
-        place: Place,
-        spot: Spot,
-        count: u16,
-    ) -> Result<(), AllocError>
-        requires { spot.field < 8 }
-        ensures { OnOk result (self.new ≡ with_entries place spot (replicate count (number 0)) self.old) }
+    fn push_zeros(&mut self, names: &KnownNames, stand: Stand, count: u16) -> Result<(), AllocError>
+        requires { stand.spot.field < 8 }
+        ensures { OnOk result (self.new ≡ with_entries stand.place stand.spot (replicate count (number 0)) self.old) }
     {
-        let mut at = spot;
+        let mut at = stand;
         let mut left = count;
         while left > 0 {
-            self.push_number(names, place, at, Word::ZERO)?;
-            at = next_spot(at);
+            self.push_number(names, at, Word::ZERO)?;
+            at = next_stand(at);
             left -= 1;
         }
         Ok(())
@@ -258,19 +277,18 @@ impl Entries {
         &mut self,
         options: Options,
         names: &KnownNames,
-        place: Place,
-        spot: Spot,
+        stand: Stand,
         string: &[u8],
     ) -> Result<(), AllocError>
-        requires { spot.field < 8 }
-        ensures { OnOk result (self.new ≡ with_entries place spot (text_words options string.now) self.old) }
+        requires { stand.spot.field < 8 }
+        ensures { OnOk result (self.new ≡ with_entries stand.place stand.spot (text_words options string.now) self.old) }
     {
-        let mut at = spot;
+        let mut at = stand;
         let mut rest = string;
         while let [first, second, others @ ..] = rest {
             let word = Word::low(0o100 * u16::from(*first % 0o100) + u16::from(*second % 0o100));
-            self.push_number(names, place, at, word)?;
-            at = next_spot(at);
+            self.push_number(names, at, word)?;
+            at = next_stand(at);
             rest = others;
         }
         let word = match rest {
@@ -282,51 +300,47 @@ impl Entries {
                 Word::ZERO
             }
         };
-        self.push_number(names, place, at, word)
+        self.push_number(names, at, word)
     }
 
     /// Puts a word of each step after the others.
     fn push_each(
         &mut self,
         names: &KnownNames,
-        place: Place,
-        spot: Spot,
+        stand: Stand,
         steps: &[Step],
     ) -> Result<(), AllocError>
-        requires { spot.field < 8 }
-        ensures { OnOk result (self.new ≡ with_entries place spot (word_each (with_values (open_of names.now) steps.now)) self.old) }
+        requires { stand.spot.field < 8 }
+        ensures { OnOk result (self.new ≡ with_entries stand.place stand.spot (word_each (with_values (open_of names.now) steps.now)) self.old) }
     {
-        let mut at = spot;
+        let mut at = stand;
         let mut rest = steps;
         while let [step, others @ ..] = rest {
-            self.push(names, None, false, place, at, &[*step])?;
-            at = next_spot(at);
+            self.push(names, None, false, at, &[*step])?;
+            at = next_stand(at);
             rest = others;
         }
         Ok(())
     }
 
-    /// Puts the words of a statement's body after the others, from where it stands on: of a value, of so many zeros, of a string, or of a name.
-    pub(crate) fn push_body(
+    /// Puts the words of a statement after the others, from where it stands on: of a value, of so many zeros, of a string, or of a name.
+    fn push_body(
         &mut self,
         options: Options,
         names: &KnownNames,
-        place: Place,
-        spot: Spot,
-        body: Body,
-        steps: &[Step],
-        string: &[u8],
+        stand: Stand,
+        content: Content<'_>,
         size: u16,
     ) -> Result<(), AllocError>
-        requires { spot.field < 8 }
-        ensures { OnOk result (self.new ≡ with_entries place spot
-            (words_in options body (open_of names.now) steps.now string.now size) self.old) }
+        requires { stand.spot.field < 8 }
+        ensures { OnOk result (self.new ≡ with_entries stand.place stand.spot
+            (words_in options content.entry.body (open_of names.now) content.entry.steps.now content.entry.string.now size) self.old) }
     {
-        match body {
-            Body::Word => self.push(names, None, false, place, spot, steps),
-            Body::Zeros => self.push_zeros(names, place, spot, size),
-            Body::Text => self.push_text(options, names, place, spot, string),
-            Body::FileName | Body::Device => self.push_each(names, place, spot, steps),
+        match content.body {
+            Body::Word => self.push(names, None, false, stand, content.steps),
+            Body::Zeros => self.push_zeros(names, stand, size),
+            Body::Text => self.push_text(options, names, stand, content.string),
+            Body::FileName | Body::Device => self.push_each(names, stand, content.steps),
             Body::Nothing | Body::Origin | Body::Define(_) | Body::Decimal | Body::Octal => Ok(()),
             Body::Field | Body::NextPage | Body::Page | Body::Listing => Ok(()),
             Body::IfZero | Body::IfNotZero | Body::IfDefined(_) | Body::IfUndefined(_) => Ok(()),
@@ -339,35 +353,33 @@ impl Entries {
     fn push_definition(
         &mut self,
         names: &KnownNames,
-        place: Place,
-        spot: Spot,
+        stand: Stand,
         name: Name,
         steps: &[Step],
     ) -> Result<(), AllocError>
-        requires { spot.field < 8 }
-        ensures { OnOk result (self.new ≡ with_late_by place spot steps.now (names_of names.now.table) (Some name) self.old) }
+        requires { stand.spot.field < 8 }
+        ensures { OnOk result (self.new ≡ with_late_by stand.place stand.spot steps.now (names_of names.now.table) (Some name) self.old) }
     {
         if !has_later(&names.table, steps) {
             return Ok(());
         }
-        let late = late_at(&names.table, spot, name);
-        self.push(names, Some(late), true, place, spot, steps)
+        let late = late_at(&names.table, stand.spot, name);
+        self.push(names, Some(late), true, stand, steps)
     }
 
     /// Puts a body after the others, if it is a late definition.
-    pub(crate) fn push_late(
+    fn push_late(
         &mut self,
         names: &KnownNames,
-        place: Place,
-        spot: Spot,
+        stand: Stand,
         body: Body,
         steps: &[Step],
     ) -> Result<(), AllocError>
-        requires { spot.field < 8 }
-        ensures { OnOk result (self.new ≡ with_late_entry place spot body steps.now (names_of names.now.table) self.old) }
+        requires { stand.spot.field < 8 }
+        ensures { OnOk result (self.new ≡ with_late_entry stand.place stand.spot body steps.now (names_of names.now.table) self.old) }
     {
         match body {
-            Body::Define(name) => self.push_definition(names, place, spot, name, steps),
+            Body::Define(name) => self.push_definition(names, stand, name, steps),
             Body::Nothing | Body::Origin | Body::Decimal | Body::Octal | Body::Field => Ok(()),
             Body::NextPage | Body::Page | Body::Zeros | Body::Text | Body::Listing => Ok(()),
             Body::IfZero | Body::IfNotZero | Body::IfDefined(_) | Body::IfUndefined(_) => Ok(()),
@@ -377,35 +389,47 @@ impl Entries {
         }
     }
 
-    /// Makes the words, by what names stand for at last.
+    /// Puts what a statement leaves to be made after the others, from where it stands on: its words, or a late definition.
+    pub(crate) fn push_content(
+        &mut self,
+        options: Options,
+        names: &KnownNames,
+        stand: Stand,
+        content: Content<'_>,
+        size: u16,
+    ) -> Result<(), AllocError>
+        requires { stand.spot.field < 8 }
+        ensures { OnOk result (self.new ≡ with_content options names.now stand content.entry size self.old) }
+    {
+        let Content {
+            body,
+            steps,
+            string,
+        } = content;
+        let again = body;
+        let said = Content {
+            body,
+            steps,
+            string,
+        };
+        self.push_body(options, names, stand, said, size)?;
+        self.push_late(names, stand, again, steps)
+    }
+
+    /// Makes the words, by what names stand for at last, after others.
     pub(crate) fn make(
         &self,
-        frames: &mut Frames,
-        pools: &mut Pools,
         alloc: Global,
         names: &KnownNames,
-        cells: &mut WordCells,
-        clash: &mut Option<Fault>,
-        pairs: &mut Vec<(Cell, Word)>,
+        made: &mut MadeWords,
     ) -> Result<(), AsmFault>
-        ensures { (whole : Result TapeWords Fault) → IsMaking whole pools.old cells.old clash.old pairs.old.items
-            → Makes (with_entries_made (own_value names.now.table) (late_values (own_value names.now.table) (is_late names.now) self.now (λ (n : ℕ). None)) self.now whole)
-            result pools.new cells.new clash.new pairs.new.items }
+        ensures { (whole : Result TapeWords Fault) → IsMakingIn whole made.old
+            → MakesIn (with_entries_made (own_value names.now.table) (late_values (own_value names.now.table) (is_late names.now) self.now (λ (n : ℕ). None)) self.now whole)
+            result made.new }
     {
         let mut late = LateValues::new(alloc);
         late.find(names, &self.heads, &self.steps)?;
-        make_all(
-            &mut late,
-            frames,
-            pools,
-            alloc,
-            names,
-            cells,
-            clash,
-            pairs,
-            &self.heads,
-            &self.steps,
-        )
+        make_all(alloc, names, &mut late, made, &self.heads, &self.steps)
     }
 
     /// The marks of the punched words, in the order of the source.

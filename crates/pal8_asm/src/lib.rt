@@ -12,6 +12,7 @@ pub mod laws;
 mod marks;
 mod pushing;
 mod texts;
+mod walks;
 mod words;
 
 pub use assemblers::Assembler;
@@ -19,4 +20,6 @@ pub use assembling::{Parts, assemble, assemble_parts};
 pub use entries::{Entries, Head, Late};
 pub use faults::{AsmFault, Fault, Place};
 pub use marks::{Mark, has_indirect_bit};
-pub use pushing::push_byte;
+pub use pushing::{Statement, push_byte, shown_statement};
+pub use walks::{Walk, pass_selected};
+pub use words::MadeWords;

@@ -1,27 +1,24 @@
 ghost use Rattle.std.specs.Prelude.{◌≡◌, ◌≤◌, ℕ, IfOk, is_some, None, List, [], ◌∷◌, length, slice_index};
 ghost use Rattle.pal_lex.specs.Text.{text_of};
 ghost use Rattle.pal_lex.specs.Text.{limit};
-ghost use Rattle.pal8_lex.specs.Reading.{HasRead, anew};
+ghost use Rattle.pal8_lex.specs.Reading.{anew};
 ghost use Rattle.pal8_asm.specs.Sources.{first_left, place_after, with_end};
 ghost use Rattle.pal8_grammar.specs.SourceNames.{own_value};
-ghost use Rattle.pal8_pools.specs.Pooled.{Holds};
 ghost use Rattle.std.specs.Ordering.{nat_cmp};
 ghost use Rattle.std.specs.BTreeMap.{get};
 ghost use Rattle.pal8_asm.specs.Marks.{last_values, marks_of};
 ghost use Rattle.pal8_asm.specs.Tapes.{without_clash, words_of_entries};
-ghost use Rattle.pal8_asm.specs.Steps.{Closes, HasTaken, IsOnTheWay, Pushes, ReadsOn, TakesByte};
+ghost use Rattle.pal8_asm.specs.Steps.{Closes, HasTaken, IsOnTheWay, ReadsOn, TakesByte};
 ghost use Rattle.pal8_asm.specs.Assembling.{MakesWords, ReadsText, remainder_of};
 ghost use Rattle.pal8_places.specs.Passing.{is_late};
 ghost use Rattle.pal8_places.specs.declared.options.Options.{Options};
 
-use crate::{AsmFault, Assembler, Fault, Mark, Place};
+use crate::{AsmFault, Assembler, MadeWords, Mark, Place, push_byte, shown_statement};
 use pal8_lex::{End, Lexer};
 use pal8_places::Code;
-use pal8_pools::{Pools, WordCells};
-use pal8_values::Frames;
 use std::alloc::{AllocError, Global};
 use std::collections::BTreeMap;
-use word12::{Cell, Word};
+use word12::Word;
 
 /// For how many words at most room is made before they are read.
 const MOST_WORDS: usize = 100_000;
@@ -45,36 +42,14 @@ fn next_line(lexer: &Lexer) -> u64
     }
 }
 
-/// Takes the next byte of a text, and answers whether it ends a statement.
-fn push(lexer: &mut Lexer, byte: u8) -> Result<bool, AsmFault>
-    ensures { (here : List ℕ) → HasRead lexer.old here → Pushes here byte result lexer.new }
-{
-    let ends = lexer.push(byte)?;
-    Ok(ends)
-}
-
 impl Assembler {
     /// Takes the next byte of a text, at this place.
     fn take_byte(&mut self, lexer: &mut Lexer, at: u64, byte: u8) -> Result<(), AsmFault>
         ensures { (options : Options) (here : List ℕ) → at ≡ limit (length here) → HasTaken options here lexer.old self.old
             → TakesByte options (byte ∷ here) result lexer.new self.new }
     {
-        let ends = match push(lexer, byte) {
-            Ok(ends) => ends,
-            Err(fault) => return Err(fault),
-        };
-        if !ends {
-            return Ok(());
-        }
-        match lexer.end() {
-            Some(end) => self.take(
-                lexer.line(),
-                at,
-                lexer.tokens(),
-                lexer.string(),
-                lexer.is_cut(),
-                end,
-            ),
+        match push_byte(lexer, byte)? {
+            Some(end) => self.take(at, shown_statement(lexer, end)),
             None => Ok(()),
         }
     }
@@ -120,7 +95,7 @@ impl Assembler {
         ensures { (text : List ℕ) → (self.now.end ≡ None → end ≡ place_after text)
             → Closes (with_end text (remainder_of self.now) self.now.brackets self.now.end) result self.now }
     {
-        let is_closed = self.brackets.is_empty();
+        let is_closed = self.walk.brackets.is_empty();
         match self.end {
             Some(dollar) => {
                 if is_closed {
@@ -164,33 +139,22 @@ impl Assembler {
     }
 
     /// Makes the words that the statements left, by what names stand for at last, and gives the punched ones, each with its cell, in the order of
-    /// the source. Nothing was asked of the pools before; then they hold the values of the literals and links.
+    /// the source. Its pools hold the values of the literals and links.
     ///
     /// Its fault is the first of a word, in their order: UA, DZ, II, RL, or PE or ZE where a page has no cell left. Else it is the first clash of a
     /// punched word with a pool's cell, by the later of the two statements (PAL8, in this project's profile).
-    pub fn words(&self, alloc: Global, pools: &mut Pools) -> Result<Vec<(Cell, Word)>, AsmFault>
-        requires { Holds pools.old [] [] }
-        ensures { MakesWords (without_clash (words_of_entries (own_value self.now.names.table) (is_late self.now.names) self.now.entries)) result pools.new }
+    pub fn words(&self, alloc: Global) -> Result<MadeWords, AsmFault>
+        ensures { MakesWords (without_clash (words_of_entries (own_value self.now.names.table) (is_late self.now.names) self.now.entries)) result }
     {
-        let mut frames = Frames::new(alloc);
-        let mut cells = WordCells::new(alloc)?;
-        let mut clash = None;
-        let mut pairs = Vec::new(alloc);
-        match self.entries.make(
-            &mut frames,
-            pools,
-            alloc,
-            &self.names,
-            &mut cells,
-            &mut clash,
-            &mut pairs,
-        ) {
+        let mut made = MadeWords::new(alloc)?;
+        match self.entries.make(alloc, &self.walk.names, &mut made) {
             Ok(()) => {}
             Err(fault) => return Err(fault),
         }
+        let clash = made.clash;
         match clash {
             Some(fault) => Err(AsmFault::At(fault.code, fault.place)),
-            None => Ok(pairs),
+            None => Ok(made),
         }
     }
 
@@ -206,6 +170,6 @@ impl Assembler {
     pub fn last_values(&self, alloc: Global) -> Result<BTreeMap<u64, Word>, AllocError>
         ensures { IfOk result (λ values. (n : ℕ) → get nat_cmp values n ≡ last_values (own_value self.now.names.table) (is_late self.now.names) self.now.entries n) }
     {
-        self.entries.last_values(alloc, &self.names)
+        self.entries.last_values(alloc, &self.walk.names)
     }
 }

@@ -1,4 +1,4 @@
-ghost use Rattle.std.specs.Prelude.{◌≡◌, ◌+◌, ◌/◌, ◌%◌, ◌<◌, ◌≤◌, List, OnOk, Result, Ok, length, vec_len, vec_capacity};
+ghost use Rattle.std.specs.Prelude.{◌≡◌, ◌+◌, ◌/◌, ◌%◌, ◌<◌, ◌≤◌, List, IfOk, OnOk, Result, Ok, length, vec_len, vec_capacity};
 ghost use Rattle.word12.specs.declared.sizes.TheConstants.{FIELD, PAGE};
 ghost use Rattle.pal8_grammar.specs.declared.steps.Step.{Step};
 ghost use Rattle.pal8_grammar.specs.SourceNames.{is_other, own_value};
@@ -9,11 +9,12 @@ ghost use Rattle.pal8_values.specs.Words.{AskResult, word_value};
 ghost use Rattle.pal8_values.specs.Answering.{IsFault};
 ghost use Rattle.pal8_asm.specs.Sources.{with_values};
 ghost use Rattle.pal8_asm.specs.Kept.{cut, entry_of, total};
-ghost use Rattle.pal8_asm.specs.Tapes.{TapeWords, clash_code, clash_fault, first_of, late_after, late_fault, late_value, spot_of, with_entries, with_entry, with_word_entry};
-ghost use Rattle.pal8_asm.specs.Steps.{GivesAt, IsFaultAt, IsJudgedLate, IsMaking, Makes, late_of};
+ghost use Rattle.pal8_asm.specs.Tapes.{TapeWords, clash_code, clash_fault, first_of, late_after, late_fault, late_value, nothing_made, spot_of, with_entries, with_entry, with_word_entry};
+ghost use Rattle.pal8_asm.specs.Making.{IsMakingIn};
+ghost use Rattle.pal8_asm.specs.Steps.{GivesAt, IsFaultAt, IsJudgedLate, MakesIn, entry_in, late_of};
 ghost use Rattle.pal8_asm.specs.declared.faults.Fault.{Fault};
 
-use crate::entries::{Head, Late};
+use crate::entries::{Head, Late, Stand};
 use crate::late::{LateValues, late_value, put_known};
 use crate::{AsmFault, Fault, Place};
 use pal8_grammar::Step;
@@ -21,7 +22,7 @@ use pal8_places::{Code, KnownNames};
 use pal8_pools::{Pools, WordCells};
 use pal8_values::laws::words_ask_near;
 use pal8_values::{Frames, Spot, ValueFault, word_value};
-use std::alloc::Global;
+use std::alloc::{AllocError, Global};
 use word12::{Cell, PAGE, Word};
 
 /// Where a word stands.
@@ -106,23 +107,22 @@ fn is_other(fixed: Option<Word>, value: Word) -> bool
 
 /// The word of a value, or the fault of its statement.
 fn word_at(
-    frames: &mut Frames,
-    pools: &mut Pools,
     alloc: Global,
     names: &KnownNames,
-    place: Place,
-    spot: Spot,
+    frames: &mut Frames,
+    pools: &mut Pools,
+    stand: Stand,
     steps: &[Step],
 ) -> Result<Word, AsmFault>
-    requires field { spot.field < 8 }
-    requires location { spot.location < 0o10000 }
-    requires here { spot.here < 0o10000 }
+    requires field { stand.spot.field < 8 }
+    requires location { stand.spot.location < 0o10000 }
+    requires here { stand.spot.here < 0o10000 }
     ensures { (asks punched : List Ask) → Holds pools.old asks punched
-        → GivesAt place (word_value (own_value names.now.table) spot steps.now asks punched) result pools.new }
+        → GivesAt stand.place (word_value (own_value names.now.table) stand.spot steps.now asks punched) result pools.new }
 {
-    match word_value(frames, pools, alloc, &names.table, spot, steps) {
+    match word_value(frames, pools, alloc, &names.table, stand.spot, steps) {
         Ok(word) => Ok(word),
-        Err(fault) => Err(fault_at(fault, place)),
+        Err(fault) => Err(fault_at(fault, stand.place)),
     }
 }
 
@@ -136,67 +136,108 @@ fn put_word(pairs: &mut Vec<(Cell, Word)>, is_punched: bool, cell: Cell, word: W
     }
 }
 
+/// The words that are made, and what they asked for.
+#[derive(Drop)]
+pub struct MadeWords {
+    pub pools: Pools,
+    /// The cells that have a punched word.
+    pub cells: WordCells,
+    /// The first punched word on a pool's cell.
+    pub clash: Option<Fault>,
+    /// The punched words with their cells, in the order of the source.
+    pub pairs: Vec<(Cell, Word)>,
+}
+
+impl MadeWords {
+    /// No word.
+    pub fn new(alloc: Global) -> Result<MadeWords, AllocError>
+        ensures { IfOk result (λ made. IsMakingIn (Ok nothing_made) made) }
+    {
+        let cells = WordCells::new(alloc)?;
+        Ok(MadeWords {
+            pools: Pools::new(alloc),
+            cells,
+            clash: None,
+            pairs: Vec::new(alloc),
+        })
+    }
+}
+
+/// Room for the steps of a word and for its open literals, which is kept from one word to the next.
+#[derive(Drop)]
+struct Room {
+    frames: Frames,
+    steps: Vec<Step>,
+}
+
+/// A word that is to be made, or a late definition, with the steps of its value.
+#[derive(Clone, Copy)]
+struct WordSource<'s> {
+    head: &'s Head,
+    steps: &'s [Step],
+}
+
 /// Makes a word after others, and looks for the first one on a pool's cell.
 fn make_word(
-    frames: &mut Frames,
-    pools: &mut Pools,
     alloc: Global,
     names: &KnownNames,
-    cells: &mut WordCells,
-    clash: &mut Option<Fault>,
-    pairs: &mut Vec<(Cell, Word)>,
-    head: Head,
-    steps: &[Step],
+    frames: &mut Frames,
+    made: &mut MadeWords,
+    source: WordSource<'_>,
 ) -> Result<(), AsmFault>
-    ensures { (whole : Result TapeWords Fault) → IsMaking whole pools.old cells.old clash.old pairs.old.items
-        → Makes (with_word_entry (own_value names.now.table) (entry_of head steps.now) steps.now whole) result
-        pools.new cells.new clash.new pairs.new.items }
+    ensures { (whole : Result TapeWords Fault) → IsMakingIn whole made.old
+        → MakesIn (with_word_entry (own_value names.now.table) (entry_in source.entry) source.entry.steps.now whole) result made.new }
 {
     words_ask_near();
-    pairs.reserve(1)?;
+    made.pairs.reserve(1)?;
+    let WordSource { head, steps } = source;
+    let head = *head;
     let again = head;
     let spot = spot_of(again);
-    let own = pools.count(spot.field, page_of(spot));
-    let zero = pools.count(spot.field, 0);
-    let word = match word_at(frames, pools, alloc, names, head.place, spot, steps) {
+    let own = made.pools.count(spot.field, page_of(spot));
+    let zero = made.pools.count(spot.field, 0);
+    let stand = Stand {
+        place: head.place,
+        spot,
+    };
+    let word = match word_at(alloc, names, frames, &mut made.pools, stand, steps) {
         Ok(word) => word,
         Err(fault) => return Err(fault),
     };
-    put_word(pairs, head.is_punched, head.cell, word);
-    let found = cells.put(pools, head.cell, head.is_punched, own, zero);
-    *clash = first_clash(*clash, head.place, found);
+    put_word(&mut made.pairs, head.is_punched, head.cell, word);
+    let found = made
+        .cells
+        .put(&made.pools, head.cell, head.is_punched, own, zero);
+    made.clash = first_clash(made.clash, head.place, found);
     Ok(())
 }
 
 /// Makes a word after others, in whose steps names have their values by late definitions.
 fn make_known(
-    scratch: &mut Vec<Step>,
-    late: &LateValues,
-    frames: &mut Frames,
-    pools: &mut Pools,
     alloc: Global,
     names: &KnownNames,
-    cells: &mut WordCells,
-    clash: &mut Option<Fault>,
-    pairs: &mut Vec<(Cell, Word)>,
-    head: Head,
-    steps: &[Step],
+    late: &LateValues,
+    room: &mut Room,
+    made: &mut MadeWords,
+    source: WordSource<'_>,
 ) -> Result<(), AsmFault>
-    ensures { (whole : Result TapeWords Fault) → IsMaking whole pools.old cells.old clash.old pairs.old.items
-        → Makes (with_word_entry (own_value names.now.table) (entry_of head steps.now) (with_values (late_of late.now) steps.now) whole) result
-        pools.new cells.new clash.new pairs.new.items }
+    ensures { (whole : Result TapeWords Fault) → IsMakingIn whole made.old
+        → MakesIn (with_word_entry (own_value names.now.table) (entry_in source.entry) (with_values (late_of late.now) source.entry.steps.now) whole)
+        result made.new }
 {
+    let WordSource { head, steps } = source;
     if late.is_empty() {
-        return make_word(
-            frames, pools, alloc, names, cells, clash, pairs, head, steps,
-        );
+        let own = WordSource { head, steps };
+        return make_word(alloc, names, &mut room.frames, made, own);
     }
-    scratch.clear();
-    scratch.reserve(steps.len())?;
-    put_known(scratch, late, steps);
-    make_word(
-        frames, pools, alloc, names, cells, clash, pairs, head, scratch,
-    )
+    room.steps.clear();
+    room.steps.reserve(steps.len())?;
+    put_known(&mut room.steps, late, steps);
+    let known = WordSource {
+        head,
+        steps: &room.steps,
+    };
+    make_word(alloc, names, &mut room.frames, made, known)
 }
 
 /// Judges a late definition.
@@ -218,25 +259,20 @@ fn judge_late(names: &KnownNames, head: Head, late: Late, steps: &[Step]) -> Res
 
 /// Makes a word after others, or judges a late definition, which has its value from there on.
 fn make_one(
-    late: &mut LateValues,
-    scratch: &mut Vec<Step>,
-    frames: &mut Frames,
-    pools: &mut Pools,
     alloc: Global,
     names: &KnownNames,
-    cells: &mut WordCells,
-    clash: &mut Option<Fault>,
-    pairs: &mut Vec<(Cell, Word)>,
-    head: Head,
-    steps: &[Step],
+    late: &mut LateValues,
+    room: &mut Room,
+    made: &mut MadeWords,
+    source: WordSource<'_>,
 ) -> Result<(), AsmFault>
-    ensures made { (whole : Result TapeWords Fault) → IsMaking whole pools.old cells.old clash.old pairs.old.items
-        → Makes (with_entry (own_value names.now.table) (late_of late.old) (entry_of head steps.now) whole) result
-        pools.new cells.new clash.new pairs.new.items }
-    ensures late { OnOk result (late_of late.new ≡ late_after (own_value names.now.table) (entry_of head steps.now) (late_of late.old)) }
+    ensures made { (whole : Result TapeWords Fault) → IsMakingIn whole made.old
+        → MakesIn (with_entry (own_value names.now.table) (late_of late.old) (entry_in source.entry) whole) result made.new }
+    ensures late { OnOk result (late_of late.new ≡ late_after (own_value names.now.table) (entry_in source.entry) (late_of late.old)) }
 {
-    let again = head;
-    let entry = head;
+    let WordSource { head, steps } = source;
+    let again = *head;
+    let entry = *head;
     match head.late {
         Some(definition) => {
             match judge_late(names, again, definition, steps) {
@@ -246,48 +282,36 @@ fn make_one(
             late.put_entry(names, entry, steps)?;
             Ok(())
         }
-        None => make_known(
-            scratch, late, frames, pools, alloc, names, cells, clash, pairs, again, steps,
-        ),
+        None => {
+            let word = WordSource { head, steps };
+            make_known(alloc, names, late, room, made, word)
+        }
     }
 }
 
 /// Makes the words of these heads, whose steps lie one after the other, after others.
-pub fn make_all(
-    late: &mut LateValues,
-    frames: &mut Frames,
-    pools: &mut Pools,
+pub(crate) fn make_all(
     alloc: Global,
     names: &KnownNames,
-    cells: &mut WordCells,
-    clash: &mut Option<Fault>,
-    pairs: &mut Vec<(Cell, Word)>,
+    late: &mut LateValues,
+    made: &mut MadeWords,
     heads: &[Head],
     steps: &[Step],
 ) -> Result<(), AsmFault>
     requires { total heads.now ≤ length steps.now }
-    ensures { (whole : Result TapeWords Fault) → IsMaking whole pools.old cells.old clash.old pairs.old.items
-        → Makes (with_entries (own_value names.now.table) (late_of late.old) (cut heads.now steps.now) whole) result
-        pools.new cells.new clash.new pairs.new.items }
+    ensures { (whole : Result TapeWords Fault) → IsMakingIn whole made.old
+        → MakesIn (with_entries (own_value names.now.table) (late_of late.old) (cut heads.now steps.now) whole) result made.new }
 {
-    let mut scratch = Vec::new(alloc);
+    let mut room = Room {
+        frames: Frames::new(alloc),
+        steps: Vec::new(alloc),
+    };
     let mut heads = heads;
     let mut steps = steps;
     while let [head, others @ ..] = heads {
         let (own, following) = steps.split_at(head.count);
-        match make_one(
-            late,
-            &mut scratch,
-            frames,
-            pools,
-            alloc,
-            names,
-            cells,
-            clash,
-            pairs,
-            *head,
-            own,
-        ) {
+        let source = WordSource { head, steps: own };
+        match make_one(alloc, names, late, &mut room, made, source) {
             Ok(()) => {}
             Err(fault) => return Err(fault),
         }

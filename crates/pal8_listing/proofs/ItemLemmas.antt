@@ -1,6 +1,7 @@
 -- A byte more of a text that is looked through.
-use Rattle.std.proofs.Common.{◌≡◌, ℕ, Option, None, Some, Result, Ok, Err, OnOk, length, List, ◌∷◌, ◌++◌, sym, ap, subst, ◌∙◌}
-use Rattle.pal_lex.specs.Text.{limit}
+use Rattle.std.proofs.Common.{◌≡◌, ◌≤◌, ◌-◌, ℕ, Option, None, Some, Result, Ok, Err, OnOk, length, get_or, take, drop, List, [], ◌∷◌, ◌++◌, sym, ap, subst, ◌∙◌, arith}
+use Rattle.std.proofs.lemmas.List.{take_all}
+use Rattle.pal_lex.specs.Text.{limit, text_from}
 use Rattle.pal8_lex.specs.Reading as lex
 use Rattle.pal8_lex.specs.declared.rules.End.{End}
 use Rattle.pal8_asm.specs.Pushing.{EndsStatement, shown_statement}
@@ -33,3 +34,8 @@ module _ {A : Type 0} (in_statement : PassResult → Statement → List A) (firs
         ∙ ap (items_after in_statement first) (sym it.0);
   }
   ends_one e it more after (Err fault) met = tt
+
+-- a text of whose bytes the first is taken
+pub next-byte : (here rest : List ℕ) → 1 ≤ length rest → text_from (get_or rest 0 0 ∷ here) (take (length rest - 1) (drop 1 rest)) ≡ text_from here rest
+next-byte here [] long = absurd (omega (arith, long))
+next-byte here (b ∷ bytes) long = ap (text_from (b ∷ here)) (take_all (length (b ∷ bytes) - 1) bytes (omega arith))

@@ -3,7 +3,7 @@ ghost use Rattle.std.specs.Prelude.{◌≡◌, ◌++◌, ◌∷◌, [], ℕ, Lis
 ghost use Rattle.pal_lex.specs.Text.{text_of};
 ghost use Rattle.pal8_lex.specs.Kinds.{is_comma};
 ghost use Rattle.pal8_lex.specs.Reading.{HasRead};
-ghost use Rattle.pal8_lex.specs.Statements.{is_string};
+ghost use Rattle.pal8_asm.specs.Pushing.{shown_statement};
 ghost use Rattle.pal8_asm.specs.Sources.{PassResult, with_next};
 ghost use Rattle.pal8_grammar.specs.Bodies.{free_name, is_equals, names_file};
 ghost use Rattle.pal8_tape.specs.Joins.{is_read, pass_on};
@@ -11,7 +11,7 @@ ghost use Rattle.pal8_tape.specs.Passing.{Follows};
 ghost use Rattle.pal8_listing.specs.Uses.{is_defining, mention_by, mentions, names_in, names_read};
 ghost use Rattle.pal8_listing.specs.ItemSteps.{HasLooked, LooksAtOne};
 
-use pal8_asm::push_byte;
+use pal8_asm::{push_byte, shown_statement};
 use pal8_grammar::free_name;
 use pal8_lex::{End, Kind, Lexer, Name, Token};
 use pal8_places::Options;
@@ -128,12 +128,12 @@ fn meet_statement(
     lexer: &Lexer,
     end: End,
 ) -> Result<(), JoinFault>
-    ensures { (at : ℕ) (left : PassResult) → Follows pass.old left → OnOk result (LooksAtOne names_read left
-        (record { line = lexer.now.line; at = at; tokens = lexer.now.draft.tokens; string = lexer.now.draft.string; is_cut = is_string lexer.now.draft.state; end = end })
+    ensures { (at : ℕ) (left : PassResult) → Follows pass.old left → OnOk result (LooksAtOne names_read left (shown_statement at end lexer.now)
         found.old.items found.new.items pass.new) }
 {
-    put_read(found, pass, lexer.line(), lexer.tokens())?;
-    pass.take(lexer.tokens(), lexer.string(), lexer.is_cut(), end)?;
+    let statement = shown_statement(lexer, end);
+    put_read(found, pass, statement.line, statement.tokens)?;
+    pass.take(statement)?;
     Ok(())
 }
 

@@ -1,7 +1,7 @@
 //! The notes on the statements of a text.
 ghost use Rattle.std.specs.Prelude.{◌≡◌, ◌++◌, ◌||◌, ◌∷◌, [], ℕ, List, IfOk, OnOk};
 ghost use Rattle.pal_lex.specs.Text.{text_of};
-ghost use Rattle.pal8_lex.specs.Statements.{is_string};
+ghost use Rattle.pal8_asm.specs.Pushing.{shown_statement};
 ghost use Rattle.pal8_asm.specs.Sources.{PassResult};
 ghost use Rattle.pal8_tape.specs.Joins.{is_operation};
 ghost use Rattle.pal8_tape.specs.Passing.{Follows};
@@ -10,8 +10,8 @@ ghost use Rattle.pal8_listing.specs.ItemSteps.{HasLooked, LooksAtOne};
 
 use crate::Difference;
 use crate::differences::{has_apart, has_closer, has_tab};
-use pal8_asm::push_byte;
-use pal8_lex::{End, Lexer, Token};
+use pal8_asm::{Statement, push_byte, shown_statement};
+use pal8_lex::{End, Lexer};
 use pal8_places::Options;
 use pal8_tape::{JoinFault, Pass};
 use std::alloc::{AllocError, Global};
@@ -43,16 +43,15 @@ fn put_notes(
     alloc: Global,
     found: &mut Vec<Note>,
     pass: &Pass,
-    line: u64,
-    tokens: &[Token],
-    string: &[u8],
+    statement: Statement<'_>,
 ) -> Result<(), AllocError>
-    ensures { (left : PassResult) → Follows pass.now left → OnOk result (found.new.items ≡ found.old.items ++ notes_on left line tokens.now string.now) }
+    ensures { (left : PassResult) → Follows pass.now left → OnOk result (found.new.items ≡ found.old.items
+        ++ notes_on left statement.entry.line statement.entry.tokens.now statement.entry.string.now) }
 {
     if !pass.is_read() {
         return Ok(());
     }
-    put_differences(alloc, found, pass, line, tokens, string)
+    put_differences(alloc, found, pass, statement)
 }
 
 /// Puts the notes on the next statement of a pass.
@@ -60,13 +59,17 @@ fn put_differences(
     alloc: Global,
     found: &mut Vec<Note>,
     pass: &Pass,
-    line: u64,
-    tokens: &[Token],
-    string: &[u8],
+    statement: Statement<'_>,
 ) -> Result<(), AllocError>
     ensures { (left : PassResult) → Follows pass.now left → OnOk result (found.new.items ≡ found.old.items
-        ++ notes_at line (differences (is_operation left) tokens.now string.now)) }
+        ++ notes_at statement.entry.line (differences (is_operation left) statement.entry.tokens.now statement.entry.string.now)) }
 {
+    let Statement {
+        line,
+        tokens,
+        string,
+        ..
+    } = statement;
     put_if(found, has_apart(tokens), line, Difference::Apart)?;
     let closer = has_closer(alloc, pass, tokens)?;
     put_if(found, closer, line, Difference::Closer)?;
@@ -81,19 +84,12 @@ fn note_statement(
     lexer: &Lexer,
     end: End,
 ) -> Result<(), JoinFault>
-    ensures { (at : ℕ) (left : PassResult) → Follows pass.old left → OnOk result (LooksAtOne notes_read left
-        (record { line = lexer.now.line; at = at; tokens = lexer.now.draft.tokens; string = lexer.now.draft.string; is_cut = is_string lexer.now.draft.state; end = end })
+    ensures { (at : ℕ) (left : PassResult) → Follows pass.old left → OnOk result (LooksAtOne notes_read left (shown_statement at end lexer.now)
         found.old.items found.new.items pass.new) }
 {
-    put_notes(
-        alloc,
-        found,
-        pass,
-        lexer.line(),
-        lexer.tokens(),
-        lexer.string(),
-    )?;
-    pass.take(lexer.tokens(), lexer.string(), lexer.is_cut(), end)?;
+    let statement = shown_statement(lexer, end);
+    put_notes(alloc, found, pass, statement)?;
+    pass.take(statement)?;
     Ok(())
 }
 

@@ -1,6 +1,8 @@
 ghost use Rattle.std.specs.Prelude.{◌≡◌};
+ghost use Rattle.pal8_places.specs.Passing.{stop_of};
 ghost use Rattle.pal8_places.specs.declared.faults.Stop.TheVariants.{Memory};
 
+use pal8_grammar::GrammarFault;
 use std::alloc::AllocError;
 use thiserror::Error;
 use word12::Cell;
@@ -80,5 +82,18 @@ impl From<AllocError> for Stop {
 
     fn from(_error: AllocError) -> Stop {
         Stop::Memory
+    }
+}
+
+impl From<GrammarFault> for Stop {
+    ghost from_gives = { λ fault stop. stop ≡ stop_of fault };
+
+    fn from(fault: GrammarFault) -> Stop {
+        match fault {
+            GrammarFault::IC => Stop::At(Code::IC),
+            GrammarFault::NU => Stop::At(Code::NU),
+            GrammarFault::SY => Stop::At(Code::SY),
+            GrammarFault::Memory => Stop::Memory,
+        }
     }
 }

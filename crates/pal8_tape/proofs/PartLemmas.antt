@@ -6,6 +6,7 @@ use Rattle.pal8_lex.specs.Text.{as_read, is_dropped, line_after, live}
 use Rattle.pal8_lex.specs.Laws.{LinesEnd}
 use Rattle.pal8_lex.specs.Rules.{end_of, ends_by}
 use Rattle.pal8_lex.specs.Pieces.{Piece, after_blank, ends, head_of, open_of, pieces, string_of, tokens_of, with_byte}
+use Rattle.pal8_lex.specs.Statements as lex_statements
 use Rattle.pal8_lex.specs.Statements.{is_string, statement_of}
 use Rattle.pal8_lex.specs.declared.rules.End.{End}
 use Rattle.pal8_lex.specs.declared.rules.End.TheVariants as end
@@ -22,7 +23,7 @@ use Rattle.pal8_asm.specs.Sources.{Entry, PassResult, Remainder, Statement, stat
 use Rattle.pal8_places.specs.Brackets.{is_selected}
 use Rattle.pal8_tape.specs.JoinLaws.{PartIsRead, if_fine}
 use Rattle.pal8_tape.specs.Joins.{before_tokens, closing_bytes, empty_statement, first_pause, has_none, is_pause, part_by, pass_on, pauses, remainder_by, tokens_after, whole_lines}
-use Rattle.pal8_tape.proofs.ByteLemmas.{ended_one, ends_one}
+use Rattle.pal8_tape.proofs.ByteLemmas.{ended_one, self_longer}
 
 -- ## Before the tokens of a statement
 
@@ -207,11 +208,21 @@ empty_is b t none =
 
 -- ## Parts
 
+tested : (test : Bool) (s : lex_statements.Statement) (older : List lex_statements.Statement) → (if test then s ∷ older else older) ≡ s ∷ older → test ≡ true
+tested true s older is = refl
+tested false s older is = absurd (self_longer s older is)
+
 module _ (ended : LinesEnd) (left : PassResult) where
+  line_ends : (t : List ℕ) → ends (pieces (live t)) 0o15 ≡ true
+  line_ends t = tested (ends (pieces (live t)) 0o15) (statement_of 0o15 (live t)) (lex_statements.statements t) (ended t)
+
+  line_statements : (t : List ℕ) → statements (0o12 ∷ t) ≡ ended_one 0o12 t ∷ statements t
+  line_statements t = ap (λ q. if q then ended_one 0o12 t ∷ statements t else statements t) (line_ends t)
+
   -- a line end after a text of which no token is left
   line_passed : (t : List ℕ) → has_none (tokens_after t) ≡ true → pass_on left (statements (0o12 ∷ t)) ≡ pass_on left (statements t)
   line_passed t none =
-      ap (pass_on left) (ends_one t 0o12 (ended t)).1 ∙ ap (λ s. with_next s (pass_on left (statements t))) (empty_is 0o12 t none)
+      ap (pass_on left) (line_statements t) ∙ ap (λ s. with_next s (pass_on left (statements t))) (empty_is 0o12 t none)
       ∙ line_is_nothing (line_after (live t)) (limit (length t)) (pass_on left (statements t))
 
   closed_statements : (t : List ℕ) → ends (pieces (live t)) 0o76 ≡ true → statements (0o76 ∷ t) ≡ ended_one 0o76 t ∷ statements t

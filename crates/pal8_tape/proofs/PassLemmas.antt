@@ -1,51 +1,23 @@
 -- Statements, one at a time.
-use Rattle.std.proofs.Common.{◌≡◌, ◌-◌, Bool, true, false, if◌then◌else◌, is_some, None, Result, Ok, Err, length, List, refl, sym, ap, subst, ◌∙◌}
+use Rattle.std.proofs.Common.{◌≡◌, Bool, true, false, if◌then◌else◌, is_some, None, Result, Ok, Err, List, refl, sym, ap, subst, ◌∙◌}
 use Rattle.pal8_lex.specs.declared.rules.End.{End}
 use Rattle.pal8_lex.specs.declared.rules.End.TheVariants as end
-use Rattle.pal8_grammar.specs.Bodies.{Phrase}
-use Rattle.pal8_places.specs.Places.{spot_at, truth_of, with_statement}
-use Rattle.pal8_places.specs.Passing.{standing}
-use Rattle.pal8_asm.specs.Sources.{Entry, PassResult, Remainder, Statement, brackets_with, at_place, open_value, phrase_of, place_of, with_brackets, with_entries, with_late_entry, with_phrase, with_next, with_said, with_selected, with_skipped, words_in}
-use Rattle.pal8_places.specs.Brackets.{brackets_after, closes_none, is_selected}
+use Rattle.pal8_asm.specs.Sources.{Entry, PassResult, Remainder, Statement, with_next, with_selected, with_skipped}
+use Rattle.pal8_places.specs.Brackets.{brackets_after, is_selected}
 use Rattle.pal8_asm.specs.Sources as asm
+use Rattle.pal8_asm.specs.Walking.{Passes, remainder_after}
+use Rattle.pal8_asm.specs.declared.walks.Walk.{Walk}
 use Rattle.pal8_places.specs.declared.faults.Code.{Code}
-use Rattle.pal8_places.specs.declared.faults.Code.TheVariants as code
 use Rattle.pal8_places.specs.declared.faults.Stop.{Stop}
 use Rattle.pal8_places.specs.declared.faults.Stop.TheVariants.{At}
 use Rattle.pal8_asm.specs.declared.faults.Fault.{Fault}
-use Rattle.pal8_places.specs.declared.names.KnownNames.{KnownNames}
-use Rattle.pal8_places.specs.declared.places.Position.{Position}
 use Rattle.pal8_tape.specs.Passing.{Follows, FollowsBy, PassState, is_settled, remainder_at}
-use Rattle.pal8_tape.specs.Steps.{Leaves, is_dollar}
-
-module _ (s : Statement) (names : KnownNames) (position : Position) (entries : List Entry) (brackets : List Bool) where
-  abbrev left : Remainder
-  left = remainder_at names position entries brackets None
-
-  module _ (phrase : Phrase) (said : phrase_of (standing names position) s.tokens s.is_cut s.end ≡ Ok phrase) (names' : KnownNames) (next : Position)
-      (passed : with_statement s.tokens phrase.0 phrase.1 (length s.string) (standing names position) ≡ Ok (standing names' next)) (holds : Bool)
-      (judged : truth_of phrase.0 phrase.1 (standing names' next) ≡ Ok holds) where
-    abbrev more : List Entry
-    more = with_late_entry (place_of s) (spot_at position) phrase.0 phrase.1 (standing names' next).names
-        (with_entries (place_of s) (spot_at position) (words_in position.options phrase.0 (open_value (standing names' next)) phrase.1 s.string (next.location - position.location)) entries)
-
-    abbrev then_brackets : Result (List Bool) Fault → PassResult
-    then_brackets = with_brackets s (standing names' next) more
-
-    pub statement_goes_on : (brackets' : List Bool) → closes_none s.end brackets ≡ false → brackets' ≡ brackets_after s.end holds brackets
-        → Leaves (with_selected s left) s (Ok next) names' brackets'
-    statement_goes_on brackets' some is = (
-      more,
-      ap (with_said s left) said ∙ ap (with_phrase s phrase left) passed
-          ∙ ap (λ t. then_brackets (brackets_with (place_of s) s.end brackets t)) judged
-          ∙ ap (λ t. then_brackets (if t then Err (at_place (place_of s) code.PH) else Ok (brackets_after s.end holds brackets))) some
-          ∙ ap (λ b. then_brackets (Ok b)) (sym is),
-    )
+use Rattle.pal8_tape.specs.Steps.{is_dollar}
 
 -- a statement with a fault
-pub fault_settles : (whole : PassResult) (s : Statement) (stop : Stop) (why : Code) (names : KnownNames) (brackets : List Bool) → stop ≡ At why → Leaves whole s (Err stop) names brackets
-    → is_settled whole ≡ true
-fault_settles whole s stop why names brackets is leaves = subst (λ (f : Stop). Leaves whole s (Err f) names brackets) is leaves
+pub fault_settles : (s : Statement) (old new : Walk) (stop : Stop) (why : Code) → stop ≡ At why → Passes s old (Err stop) new → (entries : List Entry)
+    → is_settled (with_selected s (remainder_after old entries None)) ≡ true
+fault_settles s old new stop why is passes entries = ap is_settled (subst (λ (f : Stop). Passes s old (Err f) new) is passes entries)
 
 -- ## A pass
 
@@ -83,8 +55,12 @@ module _ (s : Statement) (p : PassState) (left : PassResult) where
     pub fails : is_settled (with_selected s (remainder_at p.names p.position (going over follows).0 p.brackets None)) ≡ true → is_settled (with_next s left) ≡ true
     fails settled = ap is_settled next_is ∙ settled
 
+    abbrev pub Leaves : PassState → Type 0
+    Leaves new = (more : List Entry)
+        × (with_selected s (remainder_at p.names p.position (going over follows).0 p.brackets None) ≡ Ok (remainder_at new.names new.position more new.brackets (asm.end_of s)))
+
     ends_by : (e : End) (new : PassState) → s.end ≡ e → new.is_over ≡ is_dollar e
-        → Leaves (with_selected s (remainder_at p.names p.position (going over follows).0 p.brackets None)) s (Ok new.position) new.names new.brackets → Follows new (with_next s left)
+        → Leaves new → Follows new (with_next s left)
     ends_by end.Dollar new is done leaves =
         subst (λ o. FollowsBy o new (with_next s left)) (sym done) (ap is_settled (next_is ∙ leaves.1) ∙ ap (λ e. is_some (asm.dollar_at e record { line = s.line; start = s.at })) is)
     ends_by end.Semicolon new is done leaves = subst (λ o. FollowsBy o new (with_next s left)) (sym done)
@@ -98,5 +74,5 @@ module _ (s : Statement) (p : PassState) (left : PassResult) where
 
     -- one that is selected
     pub taken : (new : PassState) → new.is_over ≡ is_dollar s.end
-        → Leaves (with_selected s (remainder_at p.names p.position (going over follows).0 p.brackets None)) s (Ok new.position) new.names new.brackets → Follows new (with_next s left)
+        → Leaves new → Follows new (with_next s left)
     taken new done leaves = ends_by s.end new refl done leaves

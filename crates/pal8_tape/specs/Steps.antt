@@ -7,21 +7,10 @@ use Rattle.pal8_lex.specs.Reading as lex
 use Rattle.pal8_lex.specs.Reading.{HasRead}
 use Rattle.pal8_lex.specs.declared.rules.End.{End}
 use Rattle.pal8_lex.specs.declared.rules.End.TheVariants as end
-use Rattle.pal8_asm.specs.Sources as asm
-use Rattle.pal8_asm.specs.Sources.{Entry, PassResult, Statement, statements, with_next}
-use Rattle.pal8_places.specs.declared.faults.Stop.{Stop}
-use Rattle.pal8_places.specs.declared.faults.Stop.TheVariants.{At, Memory}
-use Rattle.pal8_places.specs.declared.names.KnownNames.{KnownNames}
-use Rattle.pal8_places.specs.declared.places.Position.{Position}
+use Rattle.pal8_asm.specs.Sources.{PassResult, Statement, statements, with_next}
 use Rattle.pal8_tape.specs.declared.pauses.Pause.{Pause}
 use Rattle.pal8_tape.specs.Joins.{before_tokens, closing_bytes, empty_statement, first_pause, is_line_open, is_pause, is_read, remainder_after, part, pass_on, pauses, whole_lines}
-use Rattle.pal8_tape.specs.Passing.{PassState, remainder_at, is_settled, Follows}
-
--- what a selected statement leaves, but for its words; or it has a fault; or memory ran out
-abbrev pub Leaves : PassResult → Statement → Result Position Stop → KnownNames → List Bool → Type 0
-Leaves whole s (Ok next) names brackets = (entries : List Entry) × (whole ≡ Ok (remainder_at names next entries brackets (asm.end_of s)))
-Leaves whole s (Err (At code)) names brackets = is_settled whole ≡ true
-Leaves whole s (Err Memory) names brackets = Unit {0}
+use Rattle.pal8_tape.specs.Passing.{PassState, Follows}
 
 abbrev pub is_dollar : End → Bool
 is_dollar end.Semicolon = false

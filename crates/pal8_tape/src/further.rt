@@ -1,5 +1,5 @@
 //! Faults after the first.
-ghost use Rattle.std.specs.Prelude.{◌≡◌, ◌++◌, ◌∷◌, [], Err, IfOk, IfErr, OnOk, map};
+ghost use Rattle.std.specs.Prelude.{◌≡◌, ◌++◌, ◌∷◌, [], ℕ, List, Err, IfOk, IfErr, OnOk, map};
 ghost use Rattle.pal_lex.specs.Text.{text_of};
 ghost use Rattle.pal8_asm.specs.Assembling.{Assembles};
 ghost use Rattle.pal8_tape.specs.Joins.{counts_of, joined_bytes};
@@ -12,7 +12,7 @@ use crate::places::place_in;
 use crate::tapes::at_token;
 use crate::texts::{ended_texts, join_texts, mend};
 use crate::{Fault, Join, SourceFault};
-use pal8_asm::{AsmFault, Assembler, Place, assemble};
+use pal8_asm::{AsmFault, Assembler, Fault as First, assemble};
 use pal8_places::{Code, Options};
 use std::alloc::{AllocError, Global};
 
@@ -116,7 +116,10 @@ fn mend_after(
 {
     match fault {
         AsmFault::Memory => Err(SourceFault::Memory),
-        AsmFault::At(code, place) => mend_by(alloc, options, texts, join, passed, code, place),
+        AsmFault::At(code, place) => {
+            let first = First { code, place };
+            mend_by(alloc, options, texts, join, passed, first)
+        }
     }
 }
 
@@ -127,18 +130,17 @@ fn mend_by(
     texts: &mut Vec<Vec<u8>>,
     join: &Join,
     passed: bool,
-    code: Code,
-    place: Place,
+    first: First,
 ) -> Result<bool, SourceFault>
     requires counts { join.now.counts.items ≡ counts_of options (map (λ text. text.items) texts.old.items) }
     ensures mends { IfOk result (λ is. Mends (spec.next_by options passed (map (λ text. text.items) texts.old.items)
-        (spec.fault_by passed (Err (record { code = code; place = place })))) is texts.new.items) }
+        (spec.fault_by passed (Err first))) is texts.new.items) }
     ensures fault { IfErr result (λ fault. fault ≡ Memory) }
 {
-    if !is_followed(passed, &code) {
+    if !is_followed(passed, &first.code) {
         return Ok(false);
     }
-    let (number, start) = place_in(&join.counts, place.start as usize);
+    let (number, start) = place_in(&join.counts, first.place.start as usize);
     let is_mended = mend(alloc, texts, passed, number, start as u64)?;
     Ok(is_mended)
 }
@@ -157,7 +159,7 @@ fn further_fault(
     let join = join_texts(alloc, options, texts)?;
     match assemble(alloc, options, &join.text) {
         Ok(_pairs) => Ok(None),
-        Err(fault) => fault_with_place(alloc, options, sources, texts, &join, passed, fault),
+        Err(fault) => fault_with_place(alloc, options, sources, &join, passed, fault),
     }
 }
 
@@ -166,22 +168,20 @@ fn fault_with_place(
     alloc: Global,
     options: Options,
     sources: &[&[u8]],
-    texts: &[Vec<u8>],
     join: &Join,
     passed: bool,
     fault: AsmFault,
 ) -> Result<Option<Fault>, SourceFault>
-    requires text { join.now.text.items ≡ joined_bytes options (map (λ text. text.items) texts.now) }
-    requires counts { join.now.counts.items ≡ counts_of options (map (λ text. text.items) texts.now) }
-    requires fault { Assembles options (text_of join.now.text.items) (Err fault) }
-    ensures found { IfOk result (λ found. found ≡ spec.further_fault options passed sources.now (map (λ text. text.items) texts.now)) }
+    ensures found { (texts : List (List ℕ)) → join.now.text.items ≡ joined_bytes options texts → join.now.counts.items ≡ counts_of options texts
+        → Assembles options (text_of join.now.text.items) (Err fault) → IfOk result (λ found. found ≡ spec.further_fault options passed sources.now texts) }
     ensures fault { IfErr result (λ fault. fault ≡ Memory) }
 {
     match fault {
         AsmFault::Memory => Err(SourceFault::Memory),
-        AsmFault::At(code, place) => further_by(
-            alloc, options, sources, texts, join, passed, code, place,
-        ),
+        AsmFault::At(code, place) => {
+            let first = First { code, place };
+            further_by(alloc, options, sources, join, passed, first)
+        }
     }
 }
 
@@ -190,22 +190,18 @@ fn further_by(
     alloc: Global,
     options: Options,
     sources: &[&[u8]],
-    texts: &[Vec<u8>],
     join: &Join,
     passed: bool,
-    code: Code,
-    place: Place,
+    first: First,
 ) -> Result<Option<Fault>, SourceFault>
-    requires text { join.now.text.items ≡ joined_bytes options (map (λ text. text.items) texts.now) }
-    requires counts { join.now.counts.items ≡ counts_of options (map (λ text. text.items) texts.now) }
-    ensures found { IfOk result (λ found. found ≡ spec.further_by options passed sources.now (map (λ text. text.items) texts.now)
-        (Err (record { code = code; place = place }))) }
+    ensures found { (texts : List (List ℕ)) → join.now.text.items ≡ joined_bytes options texts → join.now.counts.items ≡ counts_of options texts
+        → IfOk result (λ found. found ≡ spec.further_by options passed sources.now texts (Err first)) }
     ensures fault { IfErr result (λ fault. fault ≡ Memory) }
 {
-    if !is_further(passed, &code) {
+    if !is_further(passed, &first.code) {
         return Ok(None);
     }
-    let fault = at_token(alloc, options, sources, join, code, place)?;
+    let fault = at_token(alloc, options, sources, join, first.code, first.place)?;
     Ok(Some(fault))
 }
 

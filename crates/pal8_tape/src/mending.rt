@@ -1,18 +1,29 @@
 //! A text in which a statement that has a fault is harmless.
-ghost use Rattle.std.specs.Prelude.{◌≡◌, ◌<◌, ◌+◌, ◌++◌, if◌then◌else◌, length, take, drop, replicate, IfOk, OnOk};
+ghost use Rattle.std.specs.Prelude.{◌≡◌, ◌<◌, ◌+◌, ◌++◌, length, take, drop, replicate, IfOk, OnOk};
 ghost use Rattle.pal_lex.specs.Text.{text_of};
 ghost use Rattle.pal8_lex.specs.Kinds as kinds;
 ghost use Rattle.pal8_lex.specs.Reading.{HasRead};
 ghost use Rattle.pal8_grammar.specs.Bodies.{is_equals, name_of, opens};
 ghost use Rattle.pal8_asm.specs.Sources.{statements};
+ghost use Rattle.pal8_asm.specs.Walking.{statement_in};
 ghost use Rattle.pal8_tape.specs.Marks.{begins};
-ghost use Rattle.pal8_tape.specs.Mending.{begins_reserved, with_blanks, free_tags, harmless, harmless_by, harmless_in, harmless_statement, is_definition, is_far_reaching, tag_text, with_part};
-ghost use Rattle.pal8_tape.specs.MendSteps.{text_in};
+ghost use Rattle.pal8_tape.specs.Mending.{begins_reserved, with_blanks, free_tags, harmless, harmless_by, harmless_statement, is_definition, is_far_reaching, tag_text, with_part};
+ghost use Rattle.pal8_tape.specs.MendSteps.{harmless_text, harmless_text_with, text_in};
 
+use pal8_asm::{Statement, push_byte, shown_statement};
 use pal8_grammar::{free_name, is_reserved};
 use pal8_lex::{End, Kind, Lexer, Name, Token, tag_count};
 use source_places::{first_bytes, put_spelling};
 use std::alloc::{AllocError, Global};
+
+/// A statement that is to be harmless: the text in which it stands, and its place there.
+#[derive(Clone, Copy)]
+struct Mending<'t> {
+    text: &'t [u8],
+    start: u64,
+    /// Whether places and names of the text have no fault.
+    is_passed: bool,
+}
 
 /// A text in which the statement that begins at a place is its tags that are free names, and the word 0, with blanks after them. A definition is its
 /// tags alone, where places and names have no fault. There is no such text where a bracket opens at the statement's end, or a reserved name begins
@@ -29,7 +40,12 @@ pub(crate) fn harmless(
     let mut found = None;
     let mut taken = 0;
     while taken < text.len() {
-        look(alloc, &mut lexer, text, is_passed, start, taken, &mut found)?;
+        let mending = Mending {
+            text,
+            start,
+            is_passed,
+        };
+        look(alloc, &mut lexer, mending, taken, &mut found)?;
         taken += 1;
     }
     Ok(found)
@@ -39,36 +55,19 @@ pub(crate) fn harmless(
 fn look(
     alloc: Global,
     lexer: &mut Lexer,
-    text: &[u8],
-    is_passed: bool,
-    start: u64,
+    mending: Mending<'_>,
     at: usize,
     found: &mut Option<Vec<u8>>,
 ) -> Result<(), AllocError>
-    requires inside { at < length text.now }
+    requires inside { at < length mending.text.now }
     requires small { at < 18446744073709551615 }
-    ensures { HasRead lexer.old (text_of (take at text.now))
-        → text_in found.old ≡ harmless_in is_passed text.now start (statements (text_of (take at text.now)))
-        → OnOk result ((text_in found.new ≡ harmless_in is_passed text.now start (statements (text_of (take (at + 1) text.now))))
-        × HasRead lexer.new (text_of (take (at + 1) text.now))) }
+    ensures { HasRead lexer.old (text_of (take at mending.entry.text.now))
+        → text_in found.old ≡ harmless_text mending.entry (statements (text_of (take at mending.entry.text.now)))
+        → OnOk result ((text_in found.new ≡ harmless_text mending.entry (statements (text_of (take (at + 1) mending.entry.text.now))))
+        × HasRead lexer.new (text_of (take (at + 1) mending.entry.text.now))) }
 {
-    if !lexer.push(text[at])? {
-        return Ok(());
-    }
-    match lexer.end() {
-        Some(end) => {
-            find(
-                alloc,
-                text,
-                is_passed,
-                start,
-                at,
-                lexer.tokens(),
-                end,
-                found,
-            )?;
-            Ok(())
-        }
+    match push_byte(lexer, mending.text[at])? {
+        Some(end) => find(alloc, mending, at, shown_statement(lexer, end), found),
         None => Ok(()),
     }
 }
@@ -76,18 +75,15 @@ fn look(
 /// Finds the harmless text by a statement that a byte ends, if it is the one that begins at the place.
 fn find(
     alloc: Global,
-    text: &[u8],
-    is_passed: bool,
-    start: u64,
+    mending: Mending<'_>,
     at: usize,
-    tokens: &[Token],
-    end: End,
+    statement: Statement<'_>,
     found: &mut Option<Vec<u8>>,
 ) -> Result<(), AllocError>
-    ensures { OnOk result (text_in found.new ≡ (if begins start tokens.now then harmless_by is_passed text.now start at tokens.now end else text_in found.old)) }
+    ensures { OnOk result (text_in found.new ≡ harmless_text_with mending.entry (statement_in at statement.entry) (text_in found.old)) }
 {
-    if begins(start, tokens) {
-        let next = harmless_by(alloc, text, is_passed, start as usize, at, tokens, end)?;
+    if begins(mending.start, statement.tokens) {
+        let next = harmless_by(alloc, mending, at, statement.tokens, statement.end)?;
         *found = next;
     }
     Ok(())
@@ -106,20 +102,18 @@ fn begins(start: u64, tokens: &[Token]) -> bool
 /// The harmless text by the statement that begins and ends at these places.
 fn harmless_by(
     alloc: Global,
-    text: &[u8],
-    is_passed: bool,
-    start: usize,
+    mending: Mending<'_>,
     at: usize,
     tokens: &[Token],
     end: End,
 ) -> Result<Option<Vec<u8>>, AllocError>
-    ensures { IfOk result (λ next. text_in next ≡ harmless_by is_passed text.now start at tokens.now end) }
+    ensures { IfOk result (λ next. text_in next ≡ harmless_by mending.entry.is_passed mending.entry.text.now mending.entry.start at tokens.now end) }
 {
     if is_far_reaching(tokens, end) {
         return Ok(None);
     }
-    let part = harmless_statement(alloc, is_passed, tokens)?;
-    let next = with_part(alloc, start, at, &part, text)?;
+    let part = harmless_statement(alloc, mending.is_passed, tokens)?;
+    let next = with_part(alloc, mending.start as usize, at, &part, mending.text)?;
     Ok(Some(next))
 }
 

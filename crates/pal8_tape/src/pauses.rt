@@ -4,14 +4,15 @@ ghost use Rattle.pal_lex.specs.Text.{text_of};
 ghost use Rattle.pal8_lex.specs.Text as lex;
 ghost use Rattle.pal8_lex.specs.Text.{live};
 ghost use Rattle.pal8_lex.specs.Reading.{HasRead, anew};
+ghost use Rattle.pal8_asm.specs.Pushing.{shown_statement};
 ghost use Rattle.pal8_asm.specs.Sources.{PassResult, statements};
 ghost use Rattle.pal8_tape.specs.Joins.{has_none, is_line_open, pass_on};
 ghost use Rattle.pal8_tape.specs.Passing.{Follows};
 ghost use Rattle.pal8_tape.specs.Steps.{Finds, FindsAtEnd, IsPassing, MeetsByte, MeetsStatement};
-ghost use Rattle.pal8_lex.specs.Statements.{is_string};
 
 use crate::JoinFault;
 use crate::passes::Pass;
+use pal8_asm::{push_byte, shown_statement};
 use pal8_lex::{End, Lexer, Token};
 use std::alloc::Global;
 
@@ -70,10 +71,7 @@ fn meet_byte(pass: &mut Pass, lexer: &mut Lexer, byte: u8) -> Result<Option<End>
     ensures { (left : PassResult) (here : List ℕ) → HasRead lexer.old here → Follows pass.old (pass_on left (statements here))
         → IfOk result (λ end. MeetsByte left here byte end lexer.new pass.new) }
 {
-    if !lexer.push(byte)? {
-        return Ok(None);
-    }
-    match lexer.end() {
+    match push_byte(lexer, byte)? {
         Some(end) => meet_statement(pass, lexer, end),
         None => Ok(None),
     }
@@ -81,12 +79,11 @@ fn meet_byte(pass: &mut Pass, lexer: &mut Lexer, byte: u8) -> Result<Option<End>
 
 /// Passes the statement that a lexer shows, and answers what ends it, if it is PAUSE.
 fn meet_statement(pass: &mut Pass, lexer: &Lexer, end: End) -> Result<Option<End>, JoinFault>
-    ensures { (line at : ℕ) (left : PassResult) → Follows pass.old left → IfOk result (λ paused. MeetsStatement left
-        (record { line = line; at = at; tokens = lexer.now.draft.tokens; string = lexer.now.draft.string; is_cut = is_string lexer.now.draft.state; end = end })
+    ensures { (at : ℕ) (left : PassResult) → Follows pass.old left → IfOk result (λ paused. MeetsStatement left (shown_statement at end lexer.now)
         paused pass.new) }
 {
     let again = end;
-    if pass.meet(lexer.tokens(), lexer.string(), lexer.is_cut(), end)? {
+    if pass.meet(shown_statement(lexer, end))? {
         return Ok(Some(again));
     }
     Ok(None)

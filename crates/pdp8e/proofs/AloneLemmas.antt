@@ -1,17 +1,16 @@
--- A program that meets no instruction for the disk runs as on the processor alone.
+-- A program that meets no instruction for disk and devices runs as on the processor alone.
 use Rattle.std.proofs.Common.{◌≡◌, ℕ, zero, suc, Bool, true, false, if◌then◌else◌, Option, Some, None, refl, ap, sym, ◌∙◌, arith}
 use Rattle.cpu8.specs.declared.outcomes.Stepped.{Stepped}
 use Rattle.cpu8.specs.declared.outcomes.Stepped.TheVariants.{Stopped}
-use Rattle.rk8e.specs.Command.{is_requesting}
 use Rattle.cpu8e.specs.State.{State8e}
 use Rattle.cpu8e.specs.State as CpuState
 use Rattle.cpu8e.specs.Step.{next_word}
 use Rattle.cpu8e.specs.Step as Cpu
 use Rattle.cpu8e.specs.Runs as CpuRuns
-use Rattle.pdp8e.specs.State.{Pdp8e, IsJoined, is_still, printer_done, with_processor}
-use Rattle.pdp8e.specs.Step.{at_beginning, going_on, is_for_disk, step}
+use Rattle.pdp8e.specs.State.{Pdp8e, IsJoined, is_any_requesting, is_quiet, printer_done, with_processor}
+use Rattle.pdp8e.specs.Step.{at_beginning, going_on, is_for_devices, step}
 use Rattle.pdp8e.specs.Runs.{printing_step, with_key, after_keys}
-use Rattle.pdp8e.specs.Laws.{MeetsNoDisk}
+use Rattle.pdp8e.specs.Laws.{MeetsNoDevice}
 use Rattle.pdp8e.proofs.StillLemmas.{alone, either, if_false, still_step}
 
 -- no step changes the request
@@ -29,7 +28,7 @@ stopped_step m stopped =
     if_false m.processor.base.running (going_on (at_beginning m)) (m, Stopped) stopped
     ∙ ap (alone m) (sym (cpu_stopped m.processor stopped))
 
-pub step_alone : Requests → (m : Pdp8e) → IsJoined m → is_still m.disk ≡ true → is_for_disk (next_word m.processor) ≡ false
+pub step_alone : Requests → (m : Pdp8e) → IsJoined m → is_quiet m.disk m.devices ≡ true → is_for_devices (next_word m.processor) ≡ false
     → step m ≡ alone m (Cpu.step m.processor)
 step_alone stays m is still other = either m.processor.base.running
     (λ runs. still_step m is still runs other stays)
@@ -58,14 +57,14 @@ ended_word : (busy : Bool) (s : State8e) → next_word (if busy then CpuState.pr
 ended_word true s = refl
 ended_word false s = refl
 
-printing_alone : Requests → (m : Pdp8e) (s : State8e) → s.device_request ≡ is_requesting m.disk → is_still m.disk ≡ true
-    → is_for_disk (next_word s) ≡ false → (printing_step (with_processor m s)).0 ≡ with_processor m (CpuRuns.printing_step s).0
+printing_alone : Requests → (m : Pdp8e) (s : State8e) → s.device_request ≡ is_any_requesting m.disk m.devices → is_quiet m.disk m.devices ≡ true
+    → is_for_devices (next_word s) ≡ false → (printing_step (with_processor m s)).0 ≡ with_processor m (CpuRuns.printing_step s).0
 printing_alone stays m s is still other =
     let busy = s.base.teletype.busy in
     let t : State8e = if busy then CpuState.printer_done s else s in
     ap (λ (x : Pdp8e). (step x).0) (ended_alone busy m s)
     ∙ ap (λ (r : Pdp8e × Stepped). r.0)
-    (step_alone stays (with_processor m t) (ended_requests busy s ∙ is) still (ap (λ w. is_for_disk w) (ended_word busy s) ∙ other))
+    (step_alone stays (with_processor m t) (ended_requests busy s ∙ is) still (ap (λ w. is_for_devices w) (ended_word busy s) ∙ other))
 
 run_requests : Requests → (keys : ℕ → Option ℕ) (k : ℕ) (s : State8e) → (CpuRuns.after_keys keys k s).device_request ≡ s.device_request
 unfolding CpuRuns.after_keys
@@ -77,7 +76,7 @@ run_requests stays keys (suc k) s =
     ∙ key_requests (keys k) (CpuRuns.after_keys keys k s)
     ∙ run_requests stays keys k s
 
-pub run_alone : Requests → (keys : ℕ → Option ℕ) (k : ℕ) (m : Pdp8e) → IsJoined m → is_still m.disk ≡ true → MeetsNoDisk keys k m.processor
+pub run_alone : Requests → (keys : ℕ → Option ℕ) (k : ℕ) (m : Pdp8e) → IsJoined m → is_quiet m.disk m.devices ≡ true → MeetsNoDevice keys k m.processor
     → after_keys keys k m ≡ with_processor m (CpuRuns.after_keys keys k m.processor)
 unfolding after_keys CpuRuns.after_keys
 run_alone stays keys zero m is still meets = refl

@@ -12,6 +12,7 @@ use Rattle.rk8e.specs.Go.{begin_on}
 use Rattle.rk8e.specs.Transfer.{end_on, is_reached}
 use Rattle.rk8e.specs.Laws.{IsSettled}
 use Rattle.cpu8e.specs.Step as Cpu
+use Rattle.pdp8e.specs.Devices.{new_devices}
 use Rattle.pdp8e.specs.State.{Pdp8e}
 use Rattle.pdp8e.specs.Step.{step}
 use Rattle.pdp8e.specs.Runs.{printing_step, after_keys}
@@ -58,6 +59,7 @@ looping core d time =
     record {
       processor = record m.processor { base = record m.processor.base { pc = 0o31 } };
       disk = reading d time;
+      devices = new_devices;
     }
 
 -- the time that is left after DLAG

@@ -5,3 +5,8 @@ pub mod AloneLemmas
 pub mod BootLemmas
 pub mod UserLemmas
 pub mod WaitLemmas
+pub mod PartLemmas
+pub mod WordLemmas
+pub mod DeviceLemmas
+pub mod WriterLemmas
+pub mod IdleLemmas

@@ -10,8 +10,9 @@ use Rattle.rk8e.specs.Transfer.{after_ends}
 use Rattle.rk8e.specs.Laws.{words_of}
 use Rattle.cpu8e.specs.State.{grants_interrupt}
 use Rattle.cpu8e.specs.Step.{next_word, after_interrupt}
+use Rattle.pdp8e.specs.DeviceInstructions.{is_device_word}
 use Rattle.pdp8e.specs.State.{Pdp8e, with_processor}
-use Rattle.pdp8e.specs.Step.{at_beginning, going_on, is_disk_word, is_caf, after_instruction, disk_row, processor_row, passing, step}
+use Rattle.pdp8e.specs.Step.{at_beginning, going_on, is_disk_word, is_caf, after_instruction, after_other, disk_row, device_row, processor_row, passing, step}
 
 pub pick : {A : Type 0} (P : A → Type 0) (b : Bool) (x y : A) → (b ≡ true → P x) → (b ≡ false → P y) → P (if b then x else y)
 pick P true x y f g = f refl
@@ -34,9 +35,11 @@ disk_step Q m stays ends time instructions clears =
     let passed = time r.disk (ends runs) in
     pick P (grants_interrupt r.processor) (with_processor r (after_interrupt r.processor), Interrupted) (after_instruction p w)
     (λ _. ends runs)
-    (λ _. pick P (is_disk_word w && not r.processor.user_flag) (disk_row p w, Ran None) (processor_row p w)
+    (λ _. pick P (is_disk_word w && not r.processor.user_flag) (disk_row p w, Ran None) (after_other p w)
     (λ _. instructions p.disk (w % 8) ac passed)
-    (λ _. pick Q (is_caf w && not r.processor.user_flag) (after_clear p.disk) p.disk (λ _. clears p.disk passed) (λ _. passed))))
+    (λ _. pick P (is_device_word w && not r.processor.user_flag) (device_row p w, Ran None) (processor_row p w)
+    (λ _. passed)
+    (λ _. pick Q (is_caf w && not r.processor.user_flag) (after_clear p.disk) p.disk (λ _. clears p.disk passed) (λ _. passed)))))
     stays
 
 -- the same pack has the same words

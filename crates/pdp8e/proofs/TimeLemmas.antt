@@ -9,8 +9,9 @@ use Rattle.rk8e.specs.Time.{disk_after}
 use Rattle.rk8e.specs.Transfer.{after_ends}
 use Rattle.cpu8e.specs.State.{grants_interrupt}
 use Rattle.cpu8e.specs.Step.{next_word, after_interrupt}
+use Rattle.pdp8e.specs.DeviceInstructions.{is_device_word}
 use Rattle.pdp8e.specs.State.{Pdp8e, with_processor}
-use Rattle.pdp8e.specs.Step.{at_beginning, going_on, is_disk_word, is_caf, after_instruction, disk_row, processor_row, passing, step}
+use Rattle.pdp8e.specs.Step.{at_beginning, going_on, is_disk_word, is_caf, after_instruction, after_other, disk_row, device_row, processor_row, passing, step}
 use Rattle.pdp8e.specs.Laws.{stops_drives}
 use Rattle.pdp8e.proofs.StillLemmas.{either, neither}
 use Rattle.pdp8e.proofs.StepLemmas.{pick}
@@ -70,11 +71,13 @@ time_counts stays passes keeps m n time runs free goes is =
     pick P m.processor.base.running (going_on r) (m, Stopped)
     (λ _. pick P (grants_interrupt r.processor) (with_processor r (after_interrupt r.processor), Interrupted) (after_instruction p w)
     (λ grants. absurd (true≢false (sym grants ∙ free)))
-    (λ _. pick P (is_disk_word w && not user) (disk_row p w, Ran None) (processor_row p w)
+    (λ _. pick P (is_disk_word w && not user) (disk_row p w, Ran None) (after_other p w)
     (λ disk. keeps p.disk (w % 8) ac n time passed (not_dclr user one w disk goes))
+    (λ _. pick P (is_device_word w && not user) (device_row p w, Ran None) (processor_row p w)
+    (λ _. passed)
     (λ _. pick (λ (d : DiskState). (drive_of d n).time_left ≡ Some time) (is_caf w && not user) (after_clear p.disk) p.disk
     (λ caf. absurd (not_caf user (is_caf w) (nat_eq w 0o6742 && one) goes caf))
-    (λ _. passed))))
+    (λ _. passed)))))
     (λ stopped. absurd (true≢false (sym runs ∙ stopped)))
 
 pub time_waits : Stays → (m : Pdp8e) (n time : ℕ) → m.processor.base.running ≡ true → grants_interrupt (at_beginning m).processor ≡ true

@@ -8,8 +8,8 @@ use Rattle.cpu8e.specs.Runs as CpuRuns
 use Rattle.terminal8e.specs.Asks as Cpu
 use Rattle.terminal8e.specs.Laws.{IsInLoop, after}
 use Rattle.terminal8e.proofs.WaitLemmas.{Waits, waits}
-use Rattle.pdp8e.specs.State.{Pdp8e, IsJoined, is_still}
-use Rattle.pdp8e.specs.Step.{is_for_disk}
+use Rattle.pdp8e.specs.State.{Pdp8e, IsJoined, is_quiet}
+use Rattle.pdp8e.specs.Step.{is_for_devices}
 use Rattle.pdp8e.specs.Runs.{after_keys}
 use Rattle.pdp8e.specs.Asks.{waits_for_key, is_at_rest}
 use Rattle.pdp8e.proofs.AloneLemmas.{Requests, run_alone}
@@ -19,16 +19,16 @@ unfolding after CpuRuns.after_keys
 same_after zero s = refl
 same_after (suc k) s = ap (λ (x : State8e). (CpuRuns.printing_step x).0) (same_after k s)
 
-jmp_other : (w : ℕ) → w / 256 ≡ 10 → is_for_disk w ≡ false
+jmp_other : (w : ℕ) → w / 256 ≡ 10 → is_for_devices w ≡ false
 jmp_other w h = grind (arith, nat_tests)
 
-loop_word : (s now : State8e) → Waits s → IsInLoop s now → is_for_disk (next_word now) ≡ false
-loop_word s now w (inl is) = ap (λ (x : State8e). is_for_disk (next_word x)) is ∙ ap (λ (n : ℕ). is_for_disk n) w.word
+loop_word : (s now : State8e) → Waits s → IsInLoop s now → is_for_devices (next_word now) ≡ false
+loop_word s now w (inl is) = ap (λ (x : State8e). is_for_devices (next_word x)) is ∙ ap (λ (n : ℕ). is_for_devices n) w.word
 loop_word s now w (inr is) =
-    ap (λ (x : State8e). is_for_disk (next_word x)) is ∙ jmp_other _ w.jmp
+    ap (λ (x : State8e). is_for_devices (next_word x)) is ∙ jmp_other _ w.jmp
 
 pub waits_on : Requests → ((s : State8e) (k : ℕ) → Cpu.waits_for_key s ≡ true → IsInLoop s (after k s))
-    → (m : Pdp8e) (k : ℕ) → IsJoined m → is_still m.disk ≡ true → waits_for_key m ≡ true
+    → (m : Pdp8e) (k : ℕ) → IsJoined m → is_quiet m.disk m.devices ≡ true → waits_for_key m ≡ true
     → IsInLoop m.processor (after_keys (λ _. None) k m).processor
 waits_on stays loops m k is still h =
     let p = m.processor in

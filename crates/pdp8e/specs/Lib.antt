@@ -1,7 +1,10 @@
+pub mod Devices
+pub mod DeviceInstructions
 pub mod State
 pub mod Step
 pub mod Runs
 pub mod Asks
 pub mod Terminal
+pub mod TerminalSteps
 pub mod Laws
 pub mod Boot

@@ -4,9 +4,13 @@ use Rattle.cpu8.specs.declared.outcomes.Stepped.{Stepped}
 use Rattle.pdp8e.specs.State.{Pdp8e, key_struck, printer_done}
 use Rattle.pdp8e.specs.Step.{step}
 
--- a step, before which the printer ends its character where it is busy
+-- the printer ends its character where it is busy
+abbrev pub with_printer_done : Pdp8e → Pdp8e
+with_printer_done m = if m.processor.base.teletype.busy then printer_done m else m
+
+-- a step after that
 abbrev pub printing_step : Pdp8e → Pdp8e × Stepped
-printing_step m = step (if m.processor.base.teletype.busy then printer_done m else m)
+printing_step m = step (with_printer_done m)
 
 -- before step k, from 0 on, the key of k is struck, if it has one
 abbrev pub with_key : Option ℕ → Pdp8e → Pdp8e

@@ -12,26 +12,31 @@ ghost use Rattle.rk8e.specs.Laws.{map_word, ends_write, ends_read, AreGuarded, I
 ghost use Rattle.cpu8e.specs.State.{grants_interrupt};
 ghost use Rattle.cpu8e.specs.Step as Cpu;
 ghost use Rattle.cpu8e.specs.Runs as CpuRuns;
-ghost use Rattle.pdp8e.specs.State.{Pdp8e, IsJoined, is_still, with_processor};
-ghost use Rattle.pdp8e.specs.Step.{at_beginning, is_for_disk, step};
+ghost use Rattle.pdp8e.specs.State.{Pdp8e, IsJoined, is_quiet, with_processor};
+ghost use Rattle.pdp8e.specs.Step.{at_beginning, after_beginning, rest_of_step, is_for_devices, step};
 ghost use Rattle.pdp8e.specs.Runs.{after_keys};
 ghost use Rattle.pdp8e.specs.Boot.{after_boot};
 ghost use Rattle.terminal8e.specs.Laws.{IsInLoop};
 ghost use Rattle.pdp8e.specs.Asks.{waits_for_key};
-ghost use Rattle.pdp8e.specs.Laws.{MeetsNoDisk, stops_drives};
+ghost use Rattle.pdp8e.specs.Laws.{MeetsNoDevice, stops_drives};
 
 use cpu8e::laws::request_stays;
 use rk8e::laws as disk;
 
-/// A program that meets no instruction for the disk runs as on the processor alone, while no function of the disk is under way. The
-/// same keys are struck before the same steps.
+/// A step is its beginning, and then its rest.
+pub fn step_has_parts()
+    ensures { (m : Pdp8e) → step m ≡ rest_of_step (after_beginning m) }
+{}
+
+/// A program that meets no instruction for disk and devices runs as on the processor alone, while nothing is under way there and there is
+/// no clock. The same keys are struck before the same steps.
 pub fn without_disk()
-    ensures step { (m : Pdp8e) → IsJoined m → is_still m.disk ≡ true → is_for_disk (Cpu.next_word m.processor) ≡ false
+    ensures step { (m : Pdp8e) → IsJoined m → is_quiet m.disk m.devices ≡ true → is_for_devices (Cpu.next_word m.processor) ≡ false
         → (step m).0 ≡ with_processor m (Cpu.step m.processor).0 }
-    ensures answer { (m : Pdp8e) → IsJoined m → is_still m.disk ≡ true → is_for_disk (Cpu.next_word m.processor) ≡ false
+    ensures answer { (m : Pdp8e) → IsJoined m → is_quiet m.disk m.devices ≡ true → is_for_devices (Cpu.next_word m.processor) ≡ false
         → (step m).1 ≡ (Cpu.step m.processor).1 }
-    ensures run { (keys : ℕ → Option ℕ) (k : ℕ) (m : Pdp8e) → IsJoined m → is_still m.disk ≡ true
-        → MeetsNoDisk keys k m.processor → after_keys keys k m ≡ with_processor m (CpuRuns.after_keys keys k m.processor) }
+    ensures run { (keys : ℕ → Option ℕ) (k : ℕ) (m : Pdp8e) → IsJoined m → is_quiet m.disk m.devices ≡ true
+        → MeetsNoDevice keys k m.processor → after_keys keys k m ≡ with_processor m (CpuRuns.after_keys keys k m.processor) }
 {
     request_stays();
 }
@@ -119,10 +124,10 @@ pub fn boot_is_sector_0()
     disk::transfer_in_step();
 }
 
-/// A machine that waits for a key while no function of the disk is under way does so for ever where none comes. After any number of
-/// steps it stands at its KSF or at the JMP after it, and its processor is else as before.
+/// A machine that waits for a key, while nothing is under way and there is no clock, does so for ever where none comes. After any number
+/// of steps it stands at its KSF or at the JMP after it, and its processor is else as before.
 pub fn waiting()
-    ensures { (m : Pdp8e) (k : ℕ) → IsJoined m → is_still m.disk ≡ true → waits_for_key m ≡ true
+    ensures { (m : Pdp8e) (k : ℕ) → IsJoined m → is_quiet m.disk m.devices ≡ true → waits_for_key m ≡ true
         → IsInLoop m.processor (after_keys (λ _. None) k m).processor }
 {
     request_stays();

@@ -1,14 +1,15 @@
 ghost use Rattle.std.specs.Prelude.{◌≡◌, ◌<◌, true, false, None, Some};
-ghost use Rattle.rk8e.specs.Command.{is_requesting};
 ghost use Rattle.rk8e.specs.State.{drive_of, with_drive, with_pack};
 ghost use Rattle.rk8e.specs.Transfer.{after_ends};
 ghost use Rattle.cpu8e.specs.State.{with_request};
 ghost use Rattle.cpu8e.specs.Step.{next_word};
-ghost use Rattle.pdp8e.specs.State.{machine_of, new_machine, after_start, key_struck, printer_done, switches_set, IsJoined};
+ghost use Rattle.pdp8e.specs.State.{machine_of, new_machine, after_start, key_struck, printer_done, switches_set, with_tape, with_paper, with_clock, IsJoined, is_any_requesting};
 ghost use Rattle.pdp8e.specs.State as spec;
+ghost use Rattle.pdp8e.specs.Devices.{are_at_rest, are_requesting, devices_ended};
 ghost use Rattle.pdp8e.specs.Boot.{booting};
-ghost use Rattle.pdp8e.specs.Step.{at_beginning, going_on, is_for_disk, step};
+ghost use Rattle.pdp8e.specs.Step.{at_beginning, after_beginning, rest_of_step, going_on, is_for_devices, move_in, step};
 
+use crate::devices::Devices;
 use core_load::Core;
 use cpu8::Stepped;
 use cpu8e::Machine as Processor;
@@ -19,40 +20,44 @@ use word12::{Cell, Word};
 
 mod instructions;
 
-/// A PDP-8/E with 0o100000 words of core, a console, and an RK8-E disk control with four drives (Small Computer Handbook).
+/// A PDP-8/E with 0o100000 words of core, a console, an RK8-E disk control with four drives, a PC8-E reader and punch, an LE8 line printer
+/// and a DK8-EA clock (Small Computer Handbook).
 #[derive(Drop)]
 pub struct Machine {
     processor: Processor,
     disk: Disk,
-    /// Whether no function of the disk is under way.
-    is_still: bool,
+    devices: Devices,
+    /// Whether nothing is under way anywhere, and there is no clock.
+    is_quiet: bool,
 }
 
 impl Model for Machine {
     ghost use Rattle.std.specs.Prelude.{◌≡◌};
-    ghost use Rattle.rk8e.specs.Command.{is_requesting};
-    ghost use Rattle.pdp8e.specs.State.{Pdp8e};
+    ghost use Rattle.pdp8e.specs.State.{Pdp8e, is_any_requesting};
     ghost use Rattle.pdp8e.specs.State as spec;
 
     ghost Value = { Pdp8e };
 
-    ghost view = { λ m. record { processor = m.processor; disk = m.disk } };
+    ghost view = { λ m. record { processor = m.processor; disk = m.disk; devices = m.devices } };
 
-    ghost invariant = { λ m. (m.processor.device_request ≡ is_requesting m.disk)
-        × (m.is_still ≡ spec.is_still m.disk) };
+    ghost invariant = { λ m. (m.processor.device_request ≡ is_any_requesting m.disk m.devices)
+        × (m.is_quiet ≡ spec.is_quiet m.disk m.devices) };
 }
 
 impl Machine {
-    /// A machine with this core and this disk, stopped, with all registers and flags of the processor 0.
+    /// A machine with this core and this disk, stopped, with all registers and flags of the processor 0. It has no tape to read, no paper
+    /// in its line printer, and no clock.
     pub fn new(core: Core, disk: Disk) -> Machine
         ensures { result ≡ new_machine core disk }
     {
         let mut processor = Processor::new(core);
-        let is_still = join(&mut processor, &disk);
+        let devices = Devices::new();
+        let is_quiet = join(&mut processor, &disk, &devices);
         Machine {
             processor,
             disk,
-            is_still,
+            devices,
+            is_quiet,
         }
     }
 
@@ -68,13 +73,15 @@ impl Machine {
         machine
     }
 
-    /// Starts the machine at a cell, and clears the disk. Packs, locks, core, MQ and the switches stay (this project's profile).
+    /// Starts the machine at a cell, and clears disk and devices. Packs, locks, tape, core, MQ and the switches stay, and the clock counts
+    /// from there (this project's profile).
     pub fn start(&mut self, cell: Cell)
         ensures { self.new ≡ after_start self.old cell }
     {
         self.processor.start(cell);
         self.disk.clear();
-        self.is_still = join(&mut self.processor, &self.disk);
+        self.devices.start();
+        self.is_quiet = join(&mut self.processor, &self.disk, &self.devices);
     }
 
     /// A key is struck, of this eight-bit character.
@@ -98,7 +105,62 @@ impl Machine {
         self.processor.switches(word);
     }
 
-    /// The processor with core and console. It sees the disk's request.
+    /// A tape of these frames is put into the reader, in place of what it has (PC8-E, Small Computer Handbook).
+    pub fn put_tape(&mut self, frames: Vec<u8>)
+        ensures { self.new ≡ with_tape self.old frames.items }
+    {
+        self.devices.put_tape(frames);
+        self.is_quiet = join(&mut self.processor, &self.disk, &self.devices);
+    }
+
+    /// Paper is put into the line printer, so that PSKE doesn't skip (LE8, Small Computer Handbook).
+    pub fn put_paper(&mut self)
+        ensures { self.new ≡ with_paper self.old }
+    {
+        self.devices.put_paper();
+        self.is_quiet = join(&mut self.processor, &self.disk, &self.devices);
+    }
+
+    /// There is a clock. It ticks after each so many instructions from here on, or from the next start (DK8-EA, Small Computer Handbook;
+    /// that it counts instructions is this project's profile).
+    pub fn put_clock(&mut self, period: u64)
+        ensures { self.new ≡ with_clock self.old period }
+    {
+        self.devices.put_clock(period);
+        self.is_quiet = join(&mut self.processor, &self.disk, &self.devices);
+    }
+
+    /// The frame that the last step punched, if it did.
+    #[inline]
+    pub fn punched_frame(&self) -> Option<u8>
+        ensures { result ≡ self.now.devices.punch.writing }
+    {
+        self.devices.punched_frame()
+    }
+
+    /// The character of seven bits that the last step printed on the line printer, if it did.
+    #[inline]
+    pub fn printed_character(&self) -> Option<u8>
+        ensures { result ≡ self.now.devices.printer.writing }
+    {
+        self.devices.printed_character()
+    }
+
+    /// Whether another device than the disk interrupts after the beginning of the next step, where interrupts are on.
+    pub(crate) fn will_request(&self) -> bool
+        ensures { result ≡ are_requesting (devices_ended self.now.devices) }
+    {
+        self.devices.will_request()
+    }
+
+    /// Whether nothing of these devices is under way, and no clock may interrupt.
+    pub(crate) fn are_devices_at_rest(&self) -> bool
+        ensures { result ≡ are_at_rest self.now.devices }
+    {
+        self.devices.are_at_rest()
+    }
+
+    /// The processor with core and console. It sees the request of disk and devices.
     #[inline]
     pub fn processor(&self) -> &Processor
         ensures processor { result.now ≡ self.now.processor }
@@ -119,36 +181,37 @@ impl Machine {
     pub fn take_pack(&mut self, drive: u8) -> Option<Pack>
         ensures pack { result ≡ (drive_of self.old.disk drive).pack }
         ensures state { self.new ≡ machine_of self.old.processor
-            (with_drive self.old.disk drive (with_pack (drive_of self.old.disk drive) None)) }
+            (with_drive self.old.disk drive (with_pack (drive_of self.old.disk drive) None)) self.old.devices }
     {
         let pack = self.disk.take_pack(drive);
-        self.is_still = join(&mut self.processor, &self.disk);
+        self.is_quiet = join(&mut self.processor, &self.disk, &self.devices);
         pack
     }
 
     /// Puts a pack into a drive, 0 to 3, in place of what it has. All else stays.
     pub fn put_pack(&mut self, drive: u8, pack: Pack)
         ensures { self.new ≡ machine_of self.old.processor
-            (with_drive self.old.disk drive (with_pack (drive_of self.old.disk drive) (Some pack))) }
+            (with_drive self.old.disk drive (with_pack (drive_of self.old.disk drive) (Some pack))) self.old.devices }
     {
         self.disk.put_pack(drive, pack);
-        self.is_still = join(&mut self.processor, &self.disk);
+        self.is_quiet = join(&mut self.processor, &self.disk, &self.devices);
     }
 
-    /// All functions of the disk that have no time left end, as they do in the beginning of a step. What a transfer moved is answered
-    /// (RK8-E, Small Computer Handbook).
+    /// All functions of the disk that have no time left end, and what the devices do, as in the beginning of a step. What a transfer moved is
+    /// answered (RK8-E, Small Computer Handbook).
     pub fn end_functions(&mut self) -> Option<Moved>
         ensures state { self.new ≡ at_beginning self.old }
         ensures moved { result ≡ (after_ends self.old.disk self.old.processor.base.core).moved }
     {
         let moved = self.disk.end(self.processor.core_mut());
-        self.is_still = join(&mut self.processor, &self.disk);
+        self.devices.end();
+        self.is_quiet = join(&mut self.processor, &self.disk, &self.devices);
         moved
     }
 
     /// One step: nothing where the machine is stopped. Else what has no time left ends, and then comes an interrupt where a request is
-    /// granted, or the instruction at PC in the instruction field (Small Computer Handbook). While no function of the disk is under way
-    /// it takes as long as a step of the processor alone.
+    /// granted, or the instruction at PC in the instruction field (Small Computer Handbook). While nothing is under way on disk and
+    /// devices it takes as long as a step of the processor alone.
     #[tactic(auto, unfolding(crate::specs::Step::step))]
     pub fn step(&mut self) -> Stepped
         ensures state { self.new ≡ (step self.old).0 }
@@ -157,19 +220,42 @@ impl Machine {
         if !self.processor.is_running() {
             return Stepped::Stopped;
         }
-        if self.is_still && !instructions::is_for_disk(self.next_word()) {
+        if self.is_quiet && !instructions::is_for_devices(self.next_word()) {
             return self.step_processor();
         }
         let _moved = self.end_functions();
         self.go_on()
     }
 
-    /// A step of the processor alone, by which the disk stays as it is.
+    /// The beginning of a step: where the machine runs, all functions of the disk that have no time left end. What a transfer moved is
+    /// answered.
+    pub fn begin_step(&mut self) -> Option<Moved>
+        ensures state { self.new ≡ after_beginning self.old }
+        ensures moved { result ≡ move_in self.old }
+    {
+        if !self.processor.is_running() {
+            return None;
+        }
+        self.end_functions()
+    }
+
+    /// The rest of a step: nothing where the machine is stopped, an interrupt, or an instruction.
+    pub fn finish_step(&mut self) -> Stepped
+        ensures state { self.new ≡ (rest_of_step self.old).0 }
+        ensures answer { result ≡ (rest_of_step self.old).1 }
+    {
+        if !self.processor.is_running() {
+            return Stepped::Stopped;
+        }
+        self.go_on()
+    }
+
+    /// A step of the processor alone, by which disk and devices stay as they are.
     #[inline(always)]
     fn step_processor(&mut self) -> Stepped
         requires running { self.old.processor.base.running ≡ true }
-        requires still { spec.is_still self.old.disk ≡ true }
-        requires other { is_for_disk (next_word self.old.processor) ≡ false }
+        requires quiet { spec.is_quiet self.old.disk self.old.devices ≡ true }
+        requires other { is_for_devices (next_word self.old.processor) ≡ false }
         ensures state { self.new ≡ (step self.old).0 }
         ensures answer { result ≡ (step self.old).1 }
     {
@@ -201,11 +287,11 @@ impl Machine {
     }
 }
 
-/// The processor sees the disk's request. The answer is whether no function of the disk is under way.
-fn join(processor: &mut Processor, disk: &Disk) -> bool
-    ensures request { processor.new ≡ with_request processor.old (is_requesting disk.now) }
-    ensures still { result ≡ spec.is_still disk.now }
+/// The processor sees the request of disk and devices. The answer is whether nothing is under way there, and there is no clock.
+fn join(processor: &mut Processor, disk: &Disk, devices: &Devices) -> bool
+    ensures request { processor.new ≡ with_request processor.old (is_any_requesting disk.now devices.now) }
+    ensures quiet { result ≡ spec.is_quiet disk.now devices.now }
 {
-    processor.request_interrupt(disk.is_requesting());
-    disk.least_time().is_none()
+    processor.request_interrupt(disk.is_requesting() || devices.are_requesting());
+    disk.least_time().is_none() && devices.are_idle()
 }

@@ -1,7 +1,7 @@
 //! The machine at a terminal.
 
 ghost use Rattle.std.specs.Prelude.{◌≡◌};
-ghost use Rattle.pdp8e.specs.Asks.{is_ending, is_at_rest};
+ghost use Rattle.pdp8e.specs.Asks.{is_ending, is_interrupting, is_at_rest};
 
 use crate::Machine;
 use cpu8::Stepped;
@@ -16,13 +16,13 @@ impl TerminalMachine for Machine {
         self.processor().is_running()
     }
 
-    /// It does where its processor does, but not where a function of the disk ends in the next step.
+    /// It does where its processor does, but not where a function of the disk ends in the next step, or another device interrupts.
     #[inline]
     fn asks_for_key(&self, since: u64) -> bool {
-        asks_for_key(since, self.processor()) && !is_ending(self)
+        asks_for_key(since, self.processor()) && !(is_ending(self) || is_interrupting(self))
     }
 
-    /// It waits where its processor does, and the disk is at rest.
+    /// It waits where its processor does, and disk and devices are at rest.
     fn waits_for_key(&self) -> bool {
         waits_for_key(self.processor()) && is_at_rest(self)
     }
@@ -50,10 +50,22 @@ fn is_ending(machine: &Machine) -> bool
     }
 }
 
-/// Whether no transfer is under way, nor a seek where interrupts are on.
+/// Whether an interrupt comes in the next step by what a device beside the disk has done by then.
+fn is_interrupting(machine: &Machine) -> bool
+    ensures { result ≡ is_interrupting machine.now }
+{
+    let processor = machine.processor();
+    processor.interrupts_on()
+        && !processor.is_waiting()
+        && !processor.is_held_off()
+        && machine.will_request()
+}
+
+/// Whether no transfer is under way. Where interrupts are on, nor is anything else, and no clock may interrupt.
 fn is_at_rest(machine: &Machine) -> bool
     ensures { result ≡ is_at_rest machine.now }
 {
     let disk = machine.disk();
-    !disk.is_busy() && (!machine.processor().interrupts_on() || disk.least_time().is_none())
+    let is_still = disk.least_time().is_none() && machine.are_devices_at_rest();
+    !disk.is_busy() && (!machine.processor().interrupts_on() || is_still)
 }

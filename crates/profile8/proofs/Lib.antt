@@ -1,3 +1,4 @@
+pub mod CellCounts
 pub mod CountLemmas
 pub mod RunLemmas
 pub mod ListLemmas

@@ -1,4 +1,4 @@
--- Counts on the way, for private clauses.
+-- Counts on the way.
 use Rattle.std.specs.Prelude.{ℕ, ◌+◌, Bool, true, false, List, slice_index_or, slice_set}
 
 -- the counts after a cell's count rose by one, if its word was fetched

@@ -47,13 +47,13 @@ pub(crate) fn count_step(terminal: &mut Terminal<'_>, counts: &mut [u64]) -> Ste
     let cell = terminal.machine().next_cell();
     let did = terminal.step();
     let again = did;
-    count(counts, cell, is_fetch(again));
+    count_word(counts, cell, is_fetch(again));
     did
 }
 
 /// The count of a cell rises by one, if its word was fetched.
 #[inline(always)]
-fn count(counts: &mut [u64], cell: Cell, fetched: bool)
+pub fn count_word(counts: &mut [u64], cell: Cell, fetched: bool)
     requires size { length counts.old ≡ CORE }
     requires room { slice_index_or counts.old cell 0 + 1 < 2 ^ 64 }
     ensures { counts.new ≡ counts_with counts.old cell fetched }
@@ -63,9 +63,9 @@ fn count(counts: &mut [u64], cell: Cell, fetched: bool)
     }
 }
 
-/// Whether a step that did this fetched a word.
+/// Whether a step that did this fetched a word: it was no interrupt, and the machine didn't stand stopped (Small Computer Handbook).
 #[inline(always)]
-fn is_fetch(did: Stepped) -> bool
+pub fn is_fetch(did: Stepped) -> bool
     ensures { result ≡ is_fetch did }
 {
     match did {

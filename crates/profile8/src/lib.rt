@@ -11,6 +11,6 @@ mod runs;
 mod texts;
 mod unfetched;
 
-pub use counting::no_counts;
+pub use counting::{count_word, is_fetch, no_counts};
 pub use runs::count_fetches;
 pub use texts::profile_text;

@@ -15,7 +15,6 @@ use Rattle.change_commands.specs.Changing.{Renames, Squeezes}
 use Rattle.change_commands.specs.Copying.{Copies}
 use Rattle.change_commands.specs.Deleting.{Deletes}
 use Rattle.put_commands.specs.Putting.{Puts}
-use Rattle.change_commands.specs.CopyingMany.{CopiesMany}
 use Rattle.change_commands.specs.Patching.{PatchesWord}
 use Rattle.assemble_commands.specs.Assembling.{Assembles}
 use Rattle.program.specs.declared.changes.Change.{Change}
@@ -32,7 +31,6 @@ DoesChange (change.Put form) = Puts form
 DoesChange (change.Delete form) = Deletes form
 DoesChange (change.Rename image file new) = Renames (target_of file) new.bytes.items image
 DoesChange (change.Copy form) = Copies form
-DoesChange (change.CopyMany form) = CopiesMany form
 DoesChange (change.Squeeze image) = Squeezes image
 DoesChange (change.Patch image word) = PatchesWord word image
 DoesChange (change.Assemble form) = Assembles form
@@ -51,7 +49,6 @@ seconds_of (change.Put form) = form.image.wait
 seconds_of (change.Delete form) = form.image.wait
 seconds_of (change.Rename image file new) = image.wait
 seconds_of (change.Copy form) = form.to.wait
-seconds_of (change.CopyMany form) = form.to.wait
 seconds_of (change.Squeeze image) = image.wait
 seconds_of (change.Patch image word) = image.wait
 seconds_of (change.Assemble form) = seconds_for form.from
@@ -70,7 +67,6 @@ file_of (change.Put form) = form.image.file.bytes.items
 file_of (change.Delete form) = form.image.file.bytes.items
 file_of (change.Rename image file new) = image.file.bytes.items
 file_of (change.Copy form) = form.to.file.bytes.items
-file_of (change.CopyMany form) = form.to.file.bytes.items
 file_of (change.Squeeze image) = image.file.bytes.items
 file_of (change.Patch image word) = image.file.bytes.items
 file_of (change.Assemble form) = file_for form.from

@@ -35,7 +35,6 @@ use Rattle.show_commands.specs.Checking.{ChecksImages}
 use Rattle.get_commands.specs.GettingMany.{GetsMany}
 use Rattle.show_commands.specs.Volumes.{ReportsOne}
 use Rattle.show_commands.specs.declared.reports.ReportKind.TheVariants as report
-use Rattle.change_commands.specs.CopyingMany.{CopiesMany}
 use Rattle.show_commands.specs.Listing.{ListsSome}
 use Rattle.get_commands.specs.Texts.{ShowsTexts}
 use Rattle.show_commands.specs.Dumping.{Dumps}
@@ -50,6 +49,7 @@ use Rattle.tape_commands.specs.Sources.{WritesSource}
 use Rattle.tape_commands.specs.Tapes.{ListsTape}
 use Rattle.assemble_commands.specs.Assembling.{Assembles}
 use Rattle.script_commands.specs.Scripts.{OpensFor, RunsOver}
+use Rattle.boot_commands.specs.Boots.{BootsDisk}
 use Rattle.run_commands.specs.Profiles.{ProfilesTape}
 use Rattle.run_commands.specs.Teletypes.{RunsTeletype}
 use Rattle.run_commands.specs.Traces.{TracesTape}
@@ -117,6 +117,7 @@ DoesTask (task.Rim tape form) is_typed input = WritesRim form tape
 DoesTask (task.Source form) is_typed input = WritesSource form
 DoesTask (task.Assemble form) is_typed input = Within (seconds_for form.from) (file_for form.from) (Assembles form)
 DoesTask (task.Teletype form) is_typed input = RunsTeletype form input
+DoesTask (task.Boot form) is_typed input = BootsDisk form input
 DoesTask (task.Trace form) is_typed input = TracesTape form
 DoesTask (task.Profile form) is_typed input = ProfilesTape form
 DoesTask (task.Create form blocks) is_typed input = Then (AsksFirst is_typed (file_of_form form) input) (λ it. Within form.wait form.file.bytes.items (CreatesFile (IsBlankImage blocks) form blocks))
@@ -135,7 +136,6 @@ DoesTask (task.Put form) is_typed input = Within form.image.wait form.image.file
 DoesTask (task.Delete form) is_typed input = Within form.image.wait form.image.file.bytes.items (Deletes form)
 DoesTask (task.Rename image file new) is_typed input = Within image.wait image.file.bytes.items (Renames (target_of file) new.bytes.items image)
 DoesTask (task.Copy form) is_typed input = Within form.to.wait form.to.file.bytes.items (Copies form)
-DoesTask (task.CopyMany form) is_typed input = Within form.to.wait form.to.file.bytes.items (CopiesMany form)
 DoesTask (task.Squeeze image) is_typed input = Within image.wait image.file.bytes.items (Squeezes image)
 DoesTask (task.Check form) is_typed input = ChecksImages form
 DoesTask (task.Dump form) is_typed input = Dumps form.span form.is_sixbit form.image

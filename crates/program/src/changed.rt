@@ -33,7 +33,6 @@ pub fn image_of(task: &Task) -> Option<&str>
         Task::Delete(form) => Some(form.image.file.as_str()),
         Task::Rename(image, _, _) => Some(image.file.as_str()),
         Task::Copy(form) => Some(form.to.file.as_str()),
-        Task::CopyMany(form) => Some(form.to.file.as_str()),
         Task::Squeeze(image) => Some(image.file.as_str()),
         Task::Patch(form) => Some(form.image.file.as_str()),
         Task::Rescue(form) => Some(form.new.as_str()),

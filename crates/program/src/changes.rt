@@ -6,14 +6,14 @@ ghost use Rattle.program.specs.Changes.{DoesChange, TellsBusy, Within, file_of, 
 use archive_files::Asked;
 use assemble_commands::assemble_files;
 use change_commands::{
-    WordPatch, copy_file, copy_files, create_disk, create_image, create_tape, create_volume,
-    delete_files, patch_word, rename_file, squeeze_files,
+    WordPatch, copy_files, create_disk, create_image, create_tape, create_volume, delete_files,
+    patch_word, rename_file, squeeze_files,
 };
 use hosts::{Host, HostFault};
 use image_files::{Image, tell_reason};
 use outcome::{Content, Ending, Reason};
 use program_tasks::{
-    AssembleForm, CopyForm, CopyManyForm, CreateForm, DeleteForm, ImageForm, PutFilesForm, Saving,
+    AssembleForm, CopyForm, CreateForm, DeleteForm, ImageForm, PutFilesForm, Saving,
 };
 use put_commands::put_files;
 use script_commands::open_image;
@@ -33,7 +33,6 @@ pub enum Change {
     Delete(DeleteForm),
     Rename(ImageForm, Asked, String),
     Copy(CopyForm),
-    CopyMany(CopyManyForm),
     Squeeze(ImageForm),
     Patch(ImageForm, WordPatch),
     Assemble(AssembleForm),
@@ -116,7 +115,6 @@ impl Change {
             Change::Delete(form) => form.image.wait,
             Change::Rename(image, ..) => image.wait,
             Change::Copy(form) => form.to.wait,
-            Change::CopyMany(form) => form.to.wait,
             Change::Squeeze(image) => image.wait,
             Change::Patch(image, _) => image.wait,
             Change::Assemble(form) => match &form.from {
@@ -139,7 +137,6 @@ impl Change {
             Change::Delete(form) => form.image.file.as_str(),
             Change::Rename(image, ..) => image.file.as_str(),
             Change::Copy(form) => form.to.file.as_str(),
-            Change::CopyMany(form) => form.to.file.as_str(),
             Change::Squeeze(image) => image.file.as_str(),
             Change::Patch(image, _) => image.file.as_str(),
             Change::Assemble(form) => match &form.from {
@@ -161,8 +158,7 @@ impl Change {
             Change::Put(form) => put_files(host, alloc, form),
             Change::Delete(form) => delete_files(host, alloc, form),
             Change::Rename(image, file, new) => rename_file(host, alloc, image, file, new),
-            Change::Copy(form) => copy_file(host, alloc, form),
-            Change::CopyMany(form) => copy_files(host, alloc, form),
+            Change::Copy(form) => copy_files(host, alloc, form),
             Change::Squeeze(image) => squeeze_files(host, alloc, image),
             Change::Patch(image, word) => patch_word(host, alloc, image, word),
             Change::Assemble(form) => assemble_files(host, alloc, form),

@@ -8,6 +8,7 @@ ghost use Rattle.program.specs.Tasks.{ChoosesStyle, DoesTask, ListsIndex, Prints
 use crate::asking::change_asked;
 use crate::changed::notes_for;
 use crate::changes::{Change, change_image, open_within};
+use boot_commands::boot_disk;
 use byte_reader::ByteReader;
 use change_commands::WordPatch;
 use command_table::SCRIPT_LINES;
@@ -69,6 +70,7 @@ pub fn do_task<H: Host, I: ByteReader>(
     let mut host = host;
     let work = match task {
         Task::Teletype(form) => return run_teletype(host, alloc, input, &form),
+        Task::Boot(form) => return boot_disk(host, alloc, input, &form),
         Task::Trace(form) => return trace_tape(host, alloc, &form),
         Task::Run(image, form) => {
             let work = run_image(&mut host, alloc, input, is_typed, &image, form);
@@ -114,7 +116,6 @@ pub fn do_task<H: Host, I: ByteReader>(
             change_image(&mut host, alloc, &change)
         }
         Task::Copy(form) => change_image(&mut host, alloc, &Change::Copy(form)),
-        Task::CopyMany(form) => change_image(&mut host, alloc, &Change::CopyMany(form)),
         Task::Squeeze(image) => change_image(&mut host, alloc, &Change::Squeeze(image)),
         Task::Patch(form) => change_image(&mut host, alloc, &word_change(form)),
         Task::Assemble(form) => change_image(&mut host, alloc, &Change::Assemble(form)),

@@ -21,6 +21,7 @@ use Rattle.program_tasks.specs.declared.tasks.Saving.TheVariants.{AtEnd, Never, 
 use Rattle.program_tasks.specs.declared.tasks.SourceForm.{SourceForm}
 use Rattle.program_tasks.specs.declared.tasks.Task.{Task}
 use Rattle.program_tasks.specs.declared.tasks.Task.TheVariants as task
+use Rattle.program_tasks.specs.declared.boots.BootForm.{BootForm}
 use Rattle.program_tasks.specs.declared.tasks.TeletypeForm.{TeletypeForm}
 use Rattle.program_tasks.specs.declared.tasks.TraceForm.{TraceForm}
 use Rattle.archive_files.specs.declared.forms.GetForm.{GetForm}
@@ -72,6 +73,9 @@ use Rattle.tape_commands.specs.Tapes.{ListsTape}
 use Rattle.assemble_commands.specs.Assembling.{Assembles}
 use Rattle.script_commands.specs.Scripts.{OpensFor, RunsOver, RunsScript}
 use Rattle.run_commands.specs.Profiles.{ProfilesTape}
+use Rattle.boot_commands.specs.Boots.{BootsDisk}
+use Rattle.drive_files.specs.Opening.{are_saved}
+use Rattle.run_commands.specs.Devices8e.{has_papers}
 use Rattle.run_commands.specs.Teletypes.{RunsTeletype}
 use Rattle.run_commands.specs.Traces.{TracesTape}
 use Rattle.program.specs.Changes.{AreBusy, TellsBusy, Within, file_for, seconds_for}
@@ -196,8 +200,8 @@ module _
     (rims : (form : RimForm) (tape : Option TapeForm) → KeepsFiles (WritesRim form tape))
     (sources : (form : SourceForm) → KeepsFiles (WritesSource form))
     (assembles : (form : AssembleForm) → form.onto ≡ None → form.output ≡ None → form.list ≡ None → KeepsFiles (Assembles form))
-    (profiles : (form : TraceForm) → KeepsFiles (ProfilesTape form))
-    (traces : (form : TraceForm) → KeepsFiles (TracesTape form))
+    (profiles : (form : TraceForm) → are_saved form.disk ≡ false → has_papers form.devices ≡ false → KeepsFiles (ProfilesTape form))
+    (traces : (form : TraceForm) → are_saved form.disk ≡ false → has_papers form.devices ≡ false → KeepsFiles (TracesTape form))
   where
     assembled : (form : AssembleForm) → has_output form ≡ false → KeepsFiles (Assembles form)
     assembled form none = go (is_some form.onto) refl (is_some form.output) refl (is_some form.list) refl none
@@ -221,41 +225,50 @@ module _
     runs Never is = refl
     runs Always is = absurd (true≢false is)
 
+    neither-papers : (a b : Bool) → (a || b) ≡ false → (a ≡ false) × (b ≡ false)
+    neither-papers true b is = absurd (true≢false is)
+    neither-papers false b is = (refl, is)
+
     pub does-keep : (it : Task) (is_typed : Bool) (input : Reading) → ((form : TeletypeForm) → KeepsFiles (RunsTeletype form input))
         → ((named : ImageForm) (form : RunForm) → form.saving ≡ Never → KeepsFiles (RunsScript named form is_typed input))
+        → ((form : BootForm) → are_saved form.disk ≡ false → KeepsFiles (BootsDisk form input))
         → may_change it ≡ false → KeepsFiles (DoesTask it is_typed input)
-    does-keep (task.Tape tape) is_typed input keys script quiet = tapes tape
-    does-keep (task.Rim tape form) is_typed input keys script quiet = rims form tape
-    does-keep (task.Source form) is_typed input keys script quiet = sources form
-    does-keep (task.Assemble form) is_typed input keys script quiet = within-keeps (seconds_for form.from) (file_for form.from) (Assembles form) (assembled form quiet)
-    does-keep (task.Teletype form) is_typed input keys script quiet = keys form
-    does-keep (task.Trace form) is_typed input keys script quiet = traces form
-    does-keep (task.Profile form) is_typed input keys script quiet = profiles form
-    does-keep (task.Create form blocks) is_typed input keys script quiet = absurd (true≢false quiet)
-    does-keep (task.CreateTape form) is_typed input keys script quiet = absurd (true≢false quiet)
-    does-keep (task.CreateDisk form) is_typed input keys script quiet = absurd (true≢false quiet)
-    does-keep (task.CreateVolume image) is_typed input keys script quiet = absurd (true≢false quiet)
-    does-keep (task.List image) is_typed input keys script quiet = reports report.Files (reading_of image) image.file.bytes.items
-    does-keep (task.ListLong image year) is_typed input keys script quiet = reports (report.Places year) (reading_of image) image.file.bytes.items
-    does-keep (task.ListSome form) is_typed input keys script quiet = lists form
-    does-keep (task.Get image file form) is_typed input keys script quiet = gets file form image
-    does-keep (task.GetBin image file) is_typed input keys script quiet = tape-of file image
-    does-keep (task.GetMany form) is_typed input keys script quiet = absurd (true≢false quiet)
-    does-keep (task.GetTexts form) is_typed input keys script quiet = texts form.image form.is_all (map (λ name. name.bytes.items) form.names.items) form.places.items
-    does-keep (task.GetBlocks form) is_typed input keys script quiet = blocks form
-    does-keep (task.Put form) is_typed input keys script quiet = absurd (true≢false quiet)
-    does-keep (task.Delete form) is_typed input keys script quiet = absurd (true≢false quiet)
-    does-keep (task.Rename image file new) is_typed input keys script quiet = absurd (true≢false quiet)
-    does-keep (task.Copy form) is_typed input keys script quiet = absurd (true≢false quiet)
-    does-keep (task.CopyMany form) is_typed input keys script quiet = absurd (true≢false quiet)
-    does-keep (task.Squeeze image) is_typed input keys script quiet = absurd (true≢false quiet)
-    does-keep (task.Check form) is_typed input keys script quiet = checks form
-    does-keep (task.Dump form) is_typed input keys script quiet = dumps-keep form.span form.is_sixbit form.image
-    does-keep (task.Patch form) is_typed input keys script quiet = absurd (true≢false quiet)
-    does-keep (task.Index form) is_typed input keys script quiet = index-of form
-    does-keep (task.Rescue form) is_typed input keys script quiet = absurd (true≢false quiet)
-    does-keep (task.Scan form) is_typed input keys script quiet = scans form.into form.image quiet
-    does-keep (task.Run image form) is_typed input keys script quiet = run-keeps image form is_typed input (script image form (runs form.saving quiet))
+    does-keep (task.Tape tape) is_typed input keys script boots quiet = tapes tape
+    does-keep (task.Rim tape form) is_typed input keys script boots quiet = rims form tape
+    does-keep (task.Source form) is_typed input keys script boots quiet = sources form
+    does-keep (task.Assemble form) is_typed input keys script boots quiet = within-keeps (seconds_for form.from) (file_for form.from) (Assembles form) (assembled form quiet)
+    does-keep (task.Teletype form) is_typed input keys script boots quiet = keys form
+    does-keep (task.Trace form) is_typed input keys script boots quiet =
+        let two = neither-papers (are_saved form.disk) (has_papers form.devices) quiet in
+        traces form two.0 two.1
+    does-keep (task.Profile form) is_typed input keys script boots quiet =
+        let two = neither-papers (are_saved form.disk) (has_papers form.devices) quiet in
+        profiles form two.0 two.1
+    does-keep (task.Boot form) is_typed input keys script boots quiet = boots form quiet
+    does-keep (task.Create form blocks) is_typed input keys script boots quiet = absurd (true≢false quiet)
+    does-keep (task.CreateTape form) is_typed input keys script boots quiet = absurd (true≢false quiet)
+    does-keep (task.CreateDisk form) is_typed input keys script boots quiet = absurd (true≢false quiet)
+    does-keep (task.CreateVolume image) is_typed input keys script boots quiet = absurd (true≢false quiet)
+    does-keep (task.List image) is_typed input keys script boots quiet = reports report.Files (reading_of image) image.file.bytes.items
+    does-keep (task.ListLong image year) is_typed input keys script boots quiet = reports (report.Places year) (reading_of image) image.file.bytes.items
+    does-keep (task.ListSome form) is_typed input keys script boots quiet = lists form
+    does-keep (task.Get image file form) is_typed input keys script boots quiet = gets file form image
+    does-keep (task.GetBin image file) is_typed input keys script boots quiet = tape-of file image
+    does-keep (task.GetMany form) is_typed input keys script boots quiet = absurd (true≢false quiet)
+    does-keep (task.GetTexts form) is_typed input keys script boots quiet = texts form.image form.is_all (map (λ name. name.bytes.items) form.names.items) form.places.items
+    does-keep (task.GetBlocks form) is_typed input keys script boots quiet = blocks form
+    does-keep (task.Put form) is_typed input keys script boots quiet = absurd (true≢false quiet)
+    does-keep (task.Delete form) is_typed input keys script boots quiet = absurd (true≢false quiet)
+    does-keep (task.Rename image file new) is_typed input keys script boots quiet = absurd (true≢false quiet)
+    does-keep (task.Copy form) is_typed input keys script boots quiet = absurd (true≢false quiet)
+    does-keep (task.Squeeze image) is_typed input keys script boots quiet = absurd (true≢false quiet)
+    does-keep (task.Check form) is_typed input keys script boots quiet = checks form
+    does-keep (task.Dump form) is_typed input keys script boots quiet = dumps-keep form.span form.is_sixbit form.image
+    does-keep (task.Patch form) is_typed input keys script boots quiet = absurd (true≢false quiet)
+    does-keep (task.Index form) is_typed input keys script boots quiet = index-of form
+    does-keep (task.Rescue form) is_typed input keys script boots quiet = absurd (true≢false quiet)
+    does-keep (task.Scan form) is_typed input keys script boots quiet = scans form.into form.image quiet
+    does-keep (task.Run image form) is_typed input keys script boots quiet = run-keeps image form is_typed input (script image form (runs form.saving quiet))
 
 pub runs-keep : (it : Task) (is_typed : Bool) (input : Reading) (old new : List Event) (status : ℕ) → KeepsFiles (DoesTask it is_typed input) → RunsTask it is_typed input old new status → ChangesNothing old new
 runs-keep it is_typed input old new status keeps (inl r) path = ends-so (gives_data it) r.notes r.work r.between new status r.ends path ∙ keeps old r.work r.between r.does path

@@ -24,7 +24,6 @@ use Rattle.outcome.specs.Streams.{gives_data}
 use Rattle.change_commands.specs.declared.patches.WordPatch.{WordPatch}
 use Rattle.archive_files.specs.Asking.{Target}
 use Rattle.program_tasks.specs.declared.forms.CopyForm.{CopyForm}
-use Rattle.program_tasks.specs.declared.forms.CopyManyForm.{CopyManyForm}
 use Rattle.program_tasks.specs.declared.forms.CreateForm.{CreateForm}
 use Rattle.program_tasks.specs.declared.forms.DeleteForm.{DeleteForm}
 use Rattle.program_tasks.specs.declared.forms.ImageForm.{ImageForm}
@@ -43,7 +42,6 @@ use Rattle.program.specs.Changes.{AreBusy, Within}
 use Rattle.program.specs.Tasks.{DoesTask, RunsTask}
 use Rattle.keeper_laws.specs.Changes.{HasDeleted, HasEmptied, HasPatched, HasRenamed, HasSqueezed}
 use Rattle.keeper_laws.specs.Copied.{HasCopied}
-use Rattle.keeper_laws.specs.CopiedAll.{HasCopiedAll}
 use Rattle.keeper_laws.specs.Ended.{AllStay, DoesNothing, EndsAs}
 use Rattle.keeper_laws.specs.Made.{HasCreated}
 use Rattle.keeper_laws.specs.Stored.{HasStored}
@@ -367,9 +365,6 @@ put-reports form = record { well = λ old new s. ap failed_prints s.prints; unpr
 
 pub copy-reports : (form : CopyForm) → Reports (HasCopied form)
 copy-reports form = record { well = λ old new s. ap failed_prints s.prints; unprinted = λ old new s. ap failed_prints s.prints }
-
-pub copy-all-reports : (form : CopyManyForm) → Reports (HasCopiedAll form)
-copy-all-reports form = record { well = λ old new s. ap failed_prints s.prints; unprinted = λ old new s. ap failed_prints s.prints }
 
 pub squeeze-reports : (form : ImageForm) → Reports (HasSqueezed form)
 squeeze-reports form = record { well = λ old new s. ap failed_prints s.prints; unprinted = λ old new s. ap failed_prints s.prints }

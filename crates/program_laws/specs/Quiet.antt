@@ -1,5 +1,7 @@
 -- Which tasks may change a file of the host.
 use Rattle.std.specs.Prelude.{Bool, true, false, ◌||◌, is_some}
+use Rattle.drive_files.specs.Opening.{are_saved}
+use Rattle.run_commands.specs.Devices8e.{has_papers}
 use Rattle.program_tasks.specs.declared.tasks.AssembleForm.{AssembleForm}
 use Rattle.program_tasks.specs.declared.tasks.Saving.{Saving}
 use Rattle.program_tasks.specs.declared.tasks.Saving.TheVariants.{AtEnd, Never, Always}
@@ -38,7 +40,6 @@ may_change (task.Put form) = true
 may_change (task.Delete form) = true
 may_change (task.Rename image file new) = true
 may_change (task.Copy form) = true
-may_change (task.CopyMany form) = true
 may_change (task.Squeeze image) = true
 may_change (task.Check form) = false
 may_change (task.Dump form) = false
@@ -48,5 +49,6 @@ may_change (task.Rescue form) = true
 may_change (task.Scan form) = is_some form.into
 may_change (task.Assemble form) = has_output form
 may_change (task.Teletype form) = false
-may_change (task.Trace form) = false
-may_change (task.Profile form) = false
+may_change (task.Trace form) = are_saved form.disk || has_papers form.devices
+may_change (task.Profile form) = are_saved form.disk || has_papers form.devices
+may_change (task.Boot form) = are_saved form.disk

@@ -6,7 +6,6 @@ ghost use Rattle.archive_files.specs.declared.forms.GetForm.TheVariants as get_a
 ghost use Rattle.archive_files.specs.Laws.{whole_blocks};
 ghost use Rattle.hosts.specs.Event.{Event};
 ghost use Rattle.program_tasks.specs.declared.forms.CopyForm.{CopyForm as Copy};
-ghost use Rattle.program_tasks.specs.declared.forms.CopyManyForm.{CopyManyForm as CopyMany};
 ghost use Rattle.program_tasks.specs.declared.forms.CreateForm.{CreateForm as Create};
 ghost use Rattle.program_tasks.specs.declared.forms.DeleteForm.{DeleteForm as Delete};
 ghost use Rattle.archive_files.specs.declared.asking.Asked.{Asked as Meant};
@@ -28,7 +27,6 @@ ghost use Rattle.program_laws.specs.Quiet.{may_change};
 ghost use Rattle.program_laws.specs.Statuses.{Means, MeansMade, MeansPatch, MeansRescued};
 ghost use Rattle.keeper_laws.specs.Changes.{HasDeleted, HasEmptied, HasPatched, HasRenamed, HasSqueezed};
 ghost use Rattle.keeper_laws.specs.Copied.{HasCopied};
-ghost use Rattle.keeper_laws.specs.CopiedAll.{HasCopiedAll};
 ghost use Rattle.keeper_laws.specs.Ended.{EndsAs};
 ghost use Rattle.keeper_laws.specs.Made.{HasCreated};
 ghost use Rattle.keeper_laws.specs.Stored.{HasStored};
@@ -38,6 +36,7 @@ ghost use Rattle.archive_files.specs.Asking.{target_of};
 use archive_files::laws::put_is_got;
 use assemble_commands::laws::unchanged_files as unchanged_sources;
 use bin_tape::laws::written_tape;
+use boot_commands::laws::unchanged_files as unchanged_boots;
 use byte_reader::ByteReader;
 use get_commands::laws::shown_files;
 use image_files::laws::found_again;
@@ -66,6 +65,7 @@ pub fn quiet_tasks<I: ByteReader>()
     unchanged_machines::<I>();
     unchanged_scripts::<I>();
     unchanged_sources();
+    unchanged_boots::<I>();
 }
 
 /// What each ending of `assemble --onto` means, where no listing is named. The volume that has the sources gets their tape where the command
@@ -85,8 +85,6 @@ pub fn change_statuses<I: ByteReader>()
         → RunsTask (asked.Put form) is_typed (reading I.remaining I.has_failed before after) old new status → Means form.image (HasStored form) status old new }
     ensures copies { (form : Copy) (is_typed : Bool) (before after : I) (old new : List Event) (status : ℕ)
         → RunsTask (asked.Copy form) is_typed (reading I.remaining I.has_failed before after) old new status → Means form.to (HasCopied form) status old new }
-    ensures copies_all { (form : CopyMany) (is_typed : Bool) (before after : I) (old new : List Event) (status : ℕ)
-        → RunsTask (asked.CopyMany form) is_typed (reading I.remaining I.has_failed before after) old new status → Means form.to (HasCopiedAll form) status old new }
     ensures squeezes { (form : Kept) (is_typed : Bool) (before after : I) (old new : List Event) (status : ℕ)
         → RunsTask (asked.Squeeze form) is_typed (reading I.remaining I.has_failed before after) old new status → Means form (HasSqueezed form) status old new }
     ensures renames { (form : Kept) (file : Meant) (name : String Heap) (is_typed : Bool) (before after : I) (old new : List Event) (status : ℕ)

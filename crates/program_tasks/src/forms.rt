@@ -162,32 +162,24 @@ pub struct ListForm {
     pub year: Option<usize>,
 }
 
-/// Which file is copied, and where to.
+/// Which files are copied at once.
+#[derive(Drop)]
+pub enum CopyChoice {
+    /// This one, whose copy gets this name if it is another. An older file of the name may go.
+    One(Asked, Option<String>),
+
+    /// Those of these names on the volume, or patterns, at least one; and whether older files of their names may go.
+    Like(Vec<String>, bool),
+}
+
+/// Which files are copied, and where to.
 #[derive(Drop)]
 pub struct CopyForm {
     pub image: ImageForm,
-    pub file: Asked,
-
-    /// The volume that gets it.
-    pub to: ImageForm,
-
-    /// Its name there, if it is another.
-    pub new: Option<String>,
-}
-
-/// Which files are copied at once, and where to.
-#[derive(Drop)]
-pub struct CopyManyForm {
-    pub image: ImageForm,
-
-    /// Their names on the volume, or patterns, at least one.
-    pub names: Vec<String>,
+    pub files: CopyChoice,
 
     /// The volume that gets them.
     pub to: ImageForm,
-
-    /// Whether older files of their names there may go.
-    pub is_forced: bool,
 }
 
 /// Which volumes are reported.

@@ -3,14 +3,18 @@
 #![tactic(auto)]
 
 mod archives;
+mod boots;
+mod devices;
 mod forms;
 mod names;
 mod tasks;
 
 pub use archives::{BlockSpan, IndexForm, LineForm, PatchForm, RescueForm, ScanForm};
+pub use boots::{BootForm, DiskForm, DriveForm};
+pub use devices::DeviceForm;
 pub use forms::{
-    BlocksForm, CheckForm, CopyForm, CopyManyForm, CreateForm, DeleteForm, GetManyForm,
-    GetTextsForm, ImageForm, ListForm, PutFilesForm, TapeForm, TextsForm,
+    BlocksForm, CheckForm, CopyChoice, CopyForm, CreateForm, DeleteForm, GetManyForm, GetTextsForm,
+    ImageForm, ListForm, PutFilesForm, TapeForm, TextsForm,
 };
 pub use names::volume_named;
 pub use tasks::{

@@ -1,8 +1,10 @@
 //! The tasks, and the forms of those that run scripts, sources and tapes.
 use crate::archives::{BlockSpan, IndexForm, PatchForm, RescueForm, ScanForm};
+use crate::boots::{BootForm, DiskForm};
+use crate::devices::DeviceForm;
 use crate::forms::{
-    BlocksForm, CheckForm, CopyForm, CopyManyForm, CreateForm, DeleteForm, GetManyForm,
-    GetTextsForm, ImageForm, ListForm, PutFilesForm, TapeForm,
+    BlocksForm, CheckForm, CopyForm, CreateForm, DeleteForm, GetManyForm, GetTextsForm, ImageForm,
+    ListForm, PutFilesForm, TapeForm,
 };
 use archive_files::{Asked, GetForm};
 use word12::{Cell, Word};
@@ -135,6 +137,12 @@ pub struct TraceForm {
 
     pub cpu: Cpu,
 
+    /// The disks of an 8/E.
+    pub disk: DiskForm,
+
+    /// What else an 8/E has.
+    pub devices: DeviceForm,
+
     /// The cell at which the processor starts, if one is given.
     pub start: Option<Cell>,
 
@@ -209,11 +217,8 @@ pub enum Task {
     /// Give the file this name, on this volume.
     Rename(ImageForm, Asked, String),
 
-    /// Copy a file from volume to volume.
+    /// Copy files from volume to volume, all or none.
     Copy(CopyForm),
-
-    /// Copy files to another volume, all or none.
-    CopyMany(CopyManyForm),
 
     /// Move the files together on this volume.
     Squeeze(ImageForm),
@@ -247,4 +252,7 @@ pub enum Task {
 
     /// Run a tape, and print how often each cell was fetched.
     Profile(TraceForm),
+
+    /// Boot a disk with the terminal as the console.
+    Boot(BootForm),
 }

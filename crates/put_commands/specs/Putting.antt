@@ -46,14 +46,14 @@ abbrev pub has_name : ℕ → List NewFile → Bool
 has_name name [] = false
 has_name name (file ∷ files) = nat_eq file.name name || has_name name files
 
--- the name that a text spells, or where it spells none the one of zeros, which no file of a volume has
-abbrev pub name_or_zeros : Option ℕ → ℕ
-name_or_zeros None = 0
-name_or_zeros (Some name) = name
+-- a name, or where there is none the one of zeros, which no file of a volume has
+abbrev pub or_unused_name : Option ℕ → ℕ
+or_unused_name None = 0
+or_unused_name (Some name) = name
 
 -- the name of a file on the volume: the one that a given text spells, or where none is given that of its path, if that spells one
 abbrev pub Names : Option (List ℕ) → List ℕ → Option ℕ → Type 0
-Names (Some text) path name = name ≡ Some (name_or_zeros (typed_name text))
+Names (Some text) path name = name ≡ Some (or_unused_name (typed_name text))
 Names None path name = NamesVolume path name
 
 -- the path is printed, and what names are

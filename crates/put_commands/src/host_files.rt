@@ -4,7 +4,7 @@ ghost use Rattle.archive_many.specs.declared.putting.NewFile.{NewFile as AsNew};
 ghost use Rattle.image_files.specs.Inputs.{ReadsIf};
 ghost use Rattle.image_files.specs.Work.{OrLacks};
 ghost use Rattle.name_spelling.specs.Reading.{typed_name};
-ghost use Rattle.put_commands.specs.Putting.{DatesNext, MakesFile, Names, ReadsEach, ReadsNext, ReadsWhole, RefusesName, RefusesPath, TakesName, TellsUnread, is_input, name_or_zeros};
+ghost use Rattle.put_commands.specs.Putting.{DatesNext, MakesFile, Names, ReadsEach, ReadsNext, ReadsWhole, RefusesName, RefusesPath, TakesName, TellsUnread, is_input, or_unused_name};
 ghost use Rattle.put_commands.specs.NameSteps.{KnowsNames, has_key};
 
 use archive_many::{NewFile, volume_name};
@@ -122,7 +122,7 @@ fn name_for(given: &Option<String>, path: &str) -> Option<Name>
 
 /// The name that a text spells, or where it spells none the one of zeros, which no file of a volume has.
 fn name_typed(text: &str) -> Name
-    ensures { result ≡ name_or_zeros (typed_name text.now) }
+    ensures { result ≡ or_unused_name (typed_name text.now) }
 {
     match typed_name(text.as_bytes()) {
         Some(name) => name,

@@ -1,5 +1,6 @@
--- The commands on machines change no file.
-use Rattle.std.proofs.Common.{◌≡◌, ◌∙◌, ℕ, Bool, true, false, nat_eq, unwrap_or, Option, None, Some, Result, Ok, Err, List, inl, inr}
+-- The commands on machines change no file, but for those of drives that are to be saved, and of punch and line printer.
+use Rattle.std.proofs.Common.{◌≡◌, ◌∙◌, ℕ, Bool, true, false, true≢false, ◌||◌, is_some, nat_eq, unwrap_or, Option, None, Some, String, Result, Ok, Err, List, ap, refl, inl, inr}
+use Rattle.std.specs.Global.{Global, Vec}
 use Rattle.bin_tape.specs.Items.{Item, words_of}
 use Rattle.bin_tape.specs.Tape.{IsTape}
 use Rattle.byte_reader.specs.Readings.{Reading}
@@ -12,11 +13,15 @@ use Rattle.terminal8.specs.declared.outcomes.TerminalFault.{TerminalFault}
 use Rattle.terminal8.specs.declared.outcomes.TerminalFault.TheVariants.{Reader, Writer}
 use Rattle.trace8.specs.declared.faults.TraceFault.{TraceFault}
 use Rattle.trace8.specs.declared.faults.TraceFault.TheVariants as trace
+use Rattle.cpu8.specs.State.{next_cell}
+use Rattle.trace8e.specs.Papers.{PaperState, PapersState}
 use Rattle.program_reports.specs.Program.{program_line}
 use Rattle.tape_reports.specs.Starts.{first_cell, gives_word, start_cell}
 use Rattle.program_reports.specs.declared.programs.ProgramLine.TheVariants.{Start}
 use Rattle.run_commands.specs.RunLines.{run_line}
 use Rattle.run_commands.specs.declared.run_lines.RunLine.TheVariants.{Steps}
+use Rattle.program_tasks.specs.declared.boots.DiskForm.{DiskForm}
+use Rattle.program_tasks.specs.declared.devices.DeviceForm.{DeviceForm}
 use Rattle.program_tasks.specs.declared.forms.TapeForm.{TapeForm}
 use Rattle.program_tasks.specs.declared.tasks.Cpu.{Cpu}
 use Rattle.program_tasks.specs.declared.tasks.Cpu.TheVariants.{EightI, EightE}
@@ -29,22 +34,33 @@ use Rattle.outcome.specs.declared.notes.PlainNote.{PlainNote}
 use Rattle.image_files.specs.Answers.{AreLines}
 use Rattle.image_files.specs.Ending.{TellsLine}
 use Rattle.image_files.specs.Laws.{KeepsFiles}
-use Rattle.image_files.proofs.KeepLemmas.{purely-keeps, same, then-keeps}
+use Rattle.image_files.proofs.KeepLemmas.{looks-keeps, purely-keeps, same, then-keeps}
 use Rattle.image_files.specs.Notes.{Tells}
+use Rattle.image_files.specs.Reading.{Looks}
 use Rattle.image_files.specs.Saving.{Prints}
 use Rattle.image_files.specs.Work.{Then, Purely}
+use Rattle.drive_files.specs.Mounting.{places_of}
+use Rattle.drive_files.specs.Opening.{IsJust, OpensDrives, are_saved}
+use Rattle.drive_files.specs.declared.mounting.Places.{Places}
+use Rattle.drive_files.specs.declared.opening.OpenDrives.{OpenDrives}
+use Rattle.drive_files.proofs.KeepLemmas.{AreNone, AreUnplaced, drives-keep, drives-unplaced, saves-no-place}
 use Rattle.tape_commands.specs.Kinds.{RefusesFrames}
 use Rattle.tape_commands.specs.Programs.{ReadsProgram}
 use Rattle.run_commands.specs.CorePrograms.{FindsStart, LoadsCore, LoadsProgram, StartsAt, StartsIf, TellsCell, TellsStart, program_in}
-use Rattle.run_commands.specs.Lines.{IsJust, TellsRun, TellsText}
+use Rattle.run_commands.specs.Lines.{TellsRun, TellsText}
 use Rattle.run_commands.specs.Machines8i as pdp8i
 use Rattle.run_commands.specs.Machines8e as pdp8e
-use Rattle.run_commands.specs.Printing.{EndsRun, EndsTrace, IsEndOf, PrintsRun, PrintsTrace, line_of_end}
-use Rattle.run_commands.specs.Profiles.{ProfileOn, ProfilesTape}
+use Rattle.run_commands.specs.Devices8e.{OpensDevices, OpensPaper, ReadsTape, SavesPaper, SavesPapers, has_papers, open_devices}
+use Rattle.run_commands.specs.Drives8e.{IsStation, OpensStation, PrintsIf, ProfilesDrives, ProfilesSaving, TracesDrives, TracesSaving}
+use Rattle.run_commands.specs.Printing.{EndsRun, EndsTrace, GivesProfile, IsEndOf, PrintsRun, PrintsTrace, line_of_end}
+use Rattle.run_commands.specs.Profiles.{ProfilesOn, ProfilesPlain, ProfilesTape}
 use Rattle.run_commands.specs.Runs.{IsReady, ReadsRun, start_or}
 use Rattle.run_commands.specs.Teletypes.{ReadsProgramOf, RunsOn, RunsTeletype}
 use Rattle.run_commands.specs.Traces.{TracesOn, TracesTape}
 use Rattle.run_commands.specs.declared.core_programs.CoreProgram.{CoreProgram}
+use Rattle.run_commands.specs.declared.devices8e.OpenDevices.{OpenDevices}
+use Rattle.run_commands.specs.declared.devices8e.PaperPlace.{PaperPlace}
+use Rattle.run_commands.specs.declared.drives8e.Station.{Station}
 use Rattle.run_commands.specs.declared.printing.Stand.{Stand}
 use Rattle.run_commands.specs.declared.runs.Run.{Run}
 
@@ -81,6 +97,97 @@ starts-if-keeps words given None usual old result new p path = same path p.1
 finds-keeps : (frames : List ℕ) (given : Option ℕ) (items : List Item) → IsTape frames items → KeepsFiles (FindsStart frames given)
 finds-keeps frames given items is old result new p path = starts-if-keeps (words_of items) given (first_cell (words_of items)) (start_cell (words_of items)) old result new (p items is) path
 
+-- ## Devices whose papers no file gets
+
+or-parts : (a b : Bool) → (a || b) ≡ false → (a ≡ false) × (b ≡ false)
+or-parts true b is = absurd (true≢false is)
+or-parts false b is = (refl, is)
+
+tape-keeps : (name : Option (String Global)) → KeepsFiles (ReadsTape name)
+tape-keeps None = purely-keeps (IsJust None)
+tape-keeps (Some name) = then-keeps (Looks name.bytes.items name.bytes.items) (λ frames. Purely (IsJust (Some frames))) (looks-keeps name.bytes.items name.bytes.items) (λ frames. purely-keeps (IsJust (Some frames)))
+
+paper-keeps : (name : Option (String Global)) → is_some name ≡ false → KeepsFiles (OpensPaper name)
+paper-keeps None is = purely-keeps (IsJust None)
+paper-keeps (Some name) is = absurd (true≢false is)
+
+devices-keep : (asked : DeviceForm) → (is_some asked.punch ≡ false) × (is_some asked.printer ≡ false) → KeepsFiles (OpensDevices asked)
+devices-keep asked none =
+    then-keeps (ReadsTape asked.reader) (λ tape. Then (OpensPaper asked.punch) (λ punch. Then (OpensPaper asked.printer) (λ printer. Purely (IsJust (open_devices tape punch printer))))) (tape-keeps asked.reader)
+    (λ tape. then-keeps (OpensPaper asked.punch) (λ punch. Then (OpensPaper asked.printer) (λ printer. Purely (IsJust (open_devices tape punch printer)))) (paper-keeps asked.punch none.0)
+    (λ punch. then-keeps (OpensPaper asked.printer) (λ printer. Purely (IsJust (open_devices tape punch printer))) (paper-keeps asked.printer none.1)
+    (λ printer. purely-keeps (IsJust (open_devices tape punch printer)))))
+
+-- no file is held for a paper
+paper-none : (name : Option (String Global)) → is_some name ≡ false → (old : List Event) (place : Option PaperPlace) (new : List Event) → OpensPaper name old (Ok place) new → place ≡ None
+paper-none None is old place new p = p.0
+paper-none (Some name) is old place new p = absurd (true≢false is)
+
+module _ (asked : DeviceForm) (none : (is_some asked.punch ≡ false) × (is_some asked.printer ≡ false)) (devices : OpenDevices) where
+  after-punch : (tape : Option (Vec ℕ)) (punch : Option PaperPlace) (old new : List Event) → punch ≡ None
+      → Then (OpensPaper asked.printer) (λ printer. Purely (IsJust (open_devices tape punch printer))) old (Ok devices) new → (devices.punch ≡ None) × (devices.printer ≡ None)
+  after-punch tape punch old new is (inl ends) = absurd ends
+  after-punch tape punch old new is (inr it) = (
+    ap (λ (d : OpenDevices). d.punch) it.after.0 ∙ is,
+    ap (λ (d : OpenDevices). d.printer) it.after.0 ∙ paper-none asked.printer none.1 old it.given it.between it.done,
+  )
+
+  after-tape : (tape : Option (Vec ℕ)) (old new : List Event)
+      → Then (OpensPaper asked.punch) (λ punch. Then (OpensPaper asked.printer) (λ printer. Purely (IsJust (open_devices tape punch printer)))) old (Ok devices) new
+      → (devices.punch ≡ None) × (devices.printer ≡ None)
+  after-tape tape old new (inl ends) = absurd ends
+  after-tape tape old new (inr it) = after-punch tape it.given it.between new (paper-none asked.punch none.0 old it.given it.between it.done) it.after
+
+  devices-none : (old new : List Event) → OpensDevices asked old (Ok devices) new → (devices.punch ≡ None) × (devices.printer ≡ None)
+  devices-none old new (inl ends) = absurd ends
+  devices-none old new (inr it) = after-tape it.given it.between new it.after
+
+-- ## A station of which no file is saved
+
+abbrev IsFileless : Station → Type 0
+IsFileless station = AreNone station.places × (station.punch ≡ None) × (station.printer ≡ None)
+
+places-none : (places : Places) (drives : OpenDrives) → places ≡ places_of drives → AreUnplaced drives → AreNone places
+places-none places drives is none = (
+  ap (λ (p : Places). p.place0) is ∙ none.0,
+  ap (λ (p : Places). p.place1) is ∙ none.1,
+  ap (λ (p : Places). p.place2) is ∙ none.2,
+  ap (λ (p : Places). p.place3) is ∙ none.3,
+)
+
+saves-no-paper : (paper : PaperState) (place : Option PaperPlace) → place ≡ None → (old : List Event) (result : Result (Unit {0}) Ending) (new : List Event) → SavesPaper paper place old result new → new ≡ old
+saves-no-paper paper None none old result new p = p.1
+saves-no-paper paper (Some place) none old result new p = absurd (some-none place none)
+  where
+    some-none : (place : PaperPlace) → Some place ≡ None → ⊥
+    some-none place is = cc
+
+saves-no-papers : (papers : PapersState) (station : Station) → IsFileless station → (old : List Event) (result : Result (Unit {0}) Ending) (new : List Event)
+    → SavesPapers papers station.punch station.printer old result new → new ≡ old
+saves-no-papers papers station none old result new s =
+    saves-no-paper papers.printer station.printer none.2 s.between s.second new s.saves_printer ∙ saves-no-paper papers.punch station.punch none.1 old s.first s.between s.saves_punch
+
+module _ (form : DiskForm) (asked : DeviceForm) (program : CoreProgram) (is : are_saved form ≡ false) (none : has_papers asked ≡ false) where
+  without-papers : (is_some asked.punch ≡ false) × (is_some asked.printer ≡ false)
+  without-papers = or-parts (is_some asked.punch) (is_some asked.printer) none
+
+  station-keeps : KeepsFiles (OpensStation form asked program)
+  station-keeps = then-keeps (OpensDrives form) (λ drives. Then (OpensDevices asked) (λ devices. Purely (IsStation form asked drives devices program))) (drives-keep form)
+      (λ drives. then-keeps (OpensDevices asked) (λ devices. Purely (IsStation form asked drives devices program)) (devices-keep asked without-papers)
+      (λ devices. purely-keeps (IsStation form asked drives devices program)))
+
+  after-drives : (drives : OpenDrives) (old : List Event) (station : Station) (new : List Event) → AreUnplaced drives
+      → Then (OpensDevices asked) (λ devices. Purely (IsStation form asked drives devices program)) old (Ok station) new → IsFileless station
+  after-drives drives old station new unplaced (inl ends) = absurd ends
+  after-drives drives old station new unplaced (inr it) =
+      let ready = it.after.0 in
+      let empty = devices-none asked without-papers it.given old it.between it.done in
+      (places-none station.places drives ready.1 unplaced, ready.2 ∙ empty.0, ready.3 ∙ empty.1)
+
+  station-fileless : (old : List Event) (station : Station) (new : List Event) → OpensStation form asked program old (Ok station) new → IsFileless station
+  station-fileless old station new (inl ends) = absurd ends
+  station-fileless old station new (inr it) = after-drives it.given it.between station new (drives-unplaced form is it.given old it.between it.done) it.after
+
 -- what the crates below know of their steps is handed in
 module _
     (prints-keeps : (bytes : List ℕ) → KeepsFiles (Prints bytes))
@@ -107,9 +214,33 @@ module _
 
     -- ## The commands
 
-    pub profile-keeps : (form : TraceForm) → KeepsFiles (ProfilesTape form)
-    profile-keeps form = then-keeps (ReadsRun form) (λ run. Then (Purely (ProfileOn form.cpu (unwrap_or form.steps 1000000) run)) (λ text. Prints text.items)) (run-keeps form)
-        (λ run. then-keeps (Purely (ProfileOn form.cpu (unwrap_or form.steps 1000000) run)) (λ text. Prints text.items) (purely-keeps (ProfileOn form.cpu (unwrap_or form.steps 1000000) run)) (λ text. prints-keeps text.items))
+    plain-keeps : (most : ℕ) (run : Run) → KeepsFiles (ProfilesPlain most run)
+    plain-keeps most run = then-keeps (Purely (GivesProfile (pdp8i.CountsTo most (pdp8i.terminal_of run)) run.flags.items)) (λ text. Prints text.items)
+        (purely-keeps (GivesProfile (pdp8i.CountsTo most (pdp8i.terminal_of run)) run.flags.items)) (λ text. prints-keeps text.items)
+
+    if-keeps : (text : Result (Vec ℕ) Ending) → KeepsFiles (PrintsIf text)
+    if-keeps (Ok text) old result new p path = prints-keeps text.items old result new p path
+    if-keeps (Err ending) old result new p path = same path p.1
+
+    profile-saving : (most : ℕ) (station : Station) (keys : List ℕ) (flags : List Bool) → IsFileless station → KeepsFiles (ProfilesSaving most station keys flags)
+    profile-saving most station keys flags none old result new p path =
+        if-keeps p.text p.written p.printed new p.prints path
+        ∙ (same path (saves-no-papers p.papers station none p.kept p.filed p.written p.files) ∙ same path (saves-no-place p.after.machine.disk station.places p.left old p.saved p.kept none.0 p.saves).0)
+
+    profile-drives : (form : DiskForm) (asked : DeviceForm) → are_saved form ≡ false → has_papers asked ≡ false → (most : ℕ) (run : Run) → KeepsFiles (ProfilesDrives form asked most run)
+    profile-drives form asked is none most run old (Ok it) new (inl ends) path = absurd ends
+    profile-drives form asked is none most run old (Err ending) new (inl ends) path = station-keeps form asked run.program is none old (Err ending) new ends path
+    profile-drives form asked is none most run old result new (inr it) path =
+        profile-saving most it.given run.keys.items run.flags.items (station-fileless form asked run.program is none old it.given it.between it.done) it.between result new it.after path
+        ∙ station-keeps form asked run.program is none old (Ok it.given) it.between it.done path
+
+    profiles-on : (cpu : Cpu) (form : DiskForm) (asked : DeviceForm) → are_saved form ≡ false → has_papers asked ≡ false → (most : ℕ) (run : Run) → KeepsFiles (ProfilesOn cpu form asked most run)
+    profiles-on EightI form asked is none most run = plain-keeps most run
+    profiles-on EightE form asked is none most run = profile-drives form asked is none most run
+
+    pub profile-keeps : (form : TraceForm) → are_saved form.disk ≡ false → has_papers form.devices ≡ false → KeepsFiles (ProfilesTape form)
+    profile-keeps form is none = then-keeps (ReadsRun form) (λ run. ProfilesOn form.cpu form.disk form.devices (unwrap_or form.steps 1000000) run) (run-keeps form)
+        (λ run. profiles-on form.cpu form.disk form.devices is none (unwrap_or form.steps 1000000) run)
 
     trace-ends : (cell : ℕ) (why : Option PrintFault) (done : Result Ended TraceFault) → KeepsFiles (EndsTrace cell why done)
     trace-ends cell why (Ok ended) old result new p path = then-keeps (Purely (AreLines (run_line (Steps ended cell)))) (λ line. Prints line.items)
@@ -120,12 +251,26 @@ module _
     prints-trace : (traces_to : ℕ → Option (List ℕ) → Option (List ℕ) → Result Ended TraceFault → Type 0) → KeepsFiles (PrintsTrace traces_to)
     prints-trace traces_to old result new p path = trace-ends p.cell p.fault p.done p.between result new p.ends path ∙ output-keeps old p.between p.fault path p.prints
 
-    traces-on : (cpu : Cpu) (most : ℕ) (run : Run) → KeepsFiles (TracesOn cpu most run)
-    traces-on EightI most run = prints-trace (pdp8i.TracesTo most (pdp8i.terminal_of run) run.flags.items)
-    traces-on EightE most run = prints-trace (pdp8e.TracesTo most (pdp8e.terminal_of run) run.flags.items)
+    trace-saving : (most : ℕ) (station : Station) (keys : List ℕ) (flags : List Bool) → IsFileless station → KeepsFiles (TracesSaving most station keys flags)
+    trace-saving most station keys flags none old result new p path =
+        trace-ends (next_cell p.after.machine.processor.base) p.fault p.done p.written p.ended new p.ends path
+        ∙ (same path (saves-no-papers p.papers station none p.kept p.filed p.written p.files)
+        ∙ (same path (saves-no-place p.after.machine.disk station.places p.left p.between p.saved p.kept none.0 p.saves).0 ∙ output-keeps old p.between p.fault path p.prints))
 
-    pub trace-keeps : (form : TraceForm) → KeepsFiles (TracesTape form)
-    trace-keeps form = then-keeps (ReadsRun form) (λ run. TracesOn form.cpu (unwrap_or form.steps 1000) run) (run-keeps form) (λ run. traces-on form.cpu (unwrap_or form.steps 1000) run)
+    trace-drives : (form : DiskForm) (asked : DeviceForm) → are_saved form ≡ false → has_papers asked ≡ false → (most : ℕ) (run : Run) → KeepsFiles (TracesDrives form asked most run)
+    trace-drives form asked is none most run old (Ok it) new (inl ends) path = absurd ends
+    trace-drives form asked is none most run old (Err ending) new (inl ends) path = station-keeps form asked run.program is none old (Err ending) new ends path
+    trace-drives form asked is none most run old result new (inr it) path =
+        trace-saving most it.given run.keys.items run.flags.items (station-fileless form asked run.program is none old it.given it.between it.done) it.between result new it.after path
+        ∙ station-keeps form asked run.program is none old (Ok it.given) it.between it.done path
+
+    traces-on : (cpu : Cpu) (form : DiskForm) (asked : DeviceForm) → are_saved form ≡ false → has_papers asked ≡ false → (most : ℕ) (run : Run) → KeepsFiles (TracesOn cpu form asked most run)
+    traces-on EightI form asked is none most run = prints-trace (pdp8i.TracesTo most (pdp8i.terminal_of run) run.flags.items)
+    traces-on EightE form asked is none most run = trace-drives form asked is none most run
+
+    pub trace-keeps : (form : TraceForm) → are_saved form.disk ≡ false → has_papers form.devices ≡ false → KeepsFiles (TracesTape form)
+    trace-keeps form is none = then-keeps (ReadsRun form) (λ run. TracesOn form.cpu form.disk form.devices (unwrap_or form.steps 1000) run) (run-keeps form)
+        (λ run. traces-on form.cpu form.disk form.devices is none (unwrap_or form.steps 1000) run)
 
     program-reads : (form : TeletypeForm) → KeepsFiles (ReadsProgramOf form)
     program-reads form = then-keeps (ReadsProgram form.tape) (λ tape. LoadsProgram tape.frames.items (start_or form.start tape.start) form.switches)

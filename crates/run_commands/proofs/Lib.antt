@@ -1,2 +1,4 @@
 mod KeepLemmas
 mod RunLemmas
+mod DriveLemmas
+mod DeviceLemmas

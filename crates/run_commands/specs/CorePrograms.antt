@@ -17,7 +17,8 @@ use Rattle.image_files.specs.Notes.{Tells}
 use Rattle.image_files.specs.Saving.{IsDone}
 use Rattle.image_files.specs.Work.{Then, Purely, Lacks}
 use Rattle.tape_commands.specs.Kinds.{RefusesFrames}
-use Rattle.run_commands.specs.Lines.{TellsProgram, IsEnding, IsJust}
+use Rattle.drive_files.specs.Opening.{IsJust}
+use Rattle.run_commands.specs.Lines.{TellsProgram, IsEnding}
 use Rattle.run_commands.specs.declared.core_programs.CoreProgram.{CoreProgram}
 
 -- ## Core

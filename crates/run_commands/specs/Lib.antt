@@ -10,3 +10,5 @@ pub mod RunSteps
 pub mod Runs
 pub mod Teletypes
 pub mod Traces
+pub mod Devices8e
+pub mod Drives8e

@@ -28,11 +28,6 @@ abbrev pub IsEnding : {A : Type 0} → Ending → Result A Ending → Type 0
 IsEnding ending (Ok it) = ⊥
 IsEnding ending (Err it) = it ≡ ending
 
--- a step gives just this
-abbrev pub IsJust : {A : Type 0} → A → Result A Ending → Type 0
-IsJust given (Ok it) = it ≡ given
-IsJust given (Err ending) = ⊥
-
 -- how a command ends whose output failed so: nobody reads the pipe that it is, or it takes no more
 abbrev pub ending_of_output : Option PrintFault → Ending
 ending_of_output (Some Abandoned) = NoReader

@@ -1,54 +1,30 @@
--- What an 8/E does with a program: its run, its trace and its profile.
-use Rattle.std.specs.Prelude.{◌≡◌, ◌-◌, ◌^◌, ℕ, Bool, unwrap_or, Option, None, Some, Result, List, slice_index}
+-- What an 8/E does with a program at the Teletype.
+use Rattle.std.specs.Prelude.{◌≡◌, ◌-◌, ◌^◌, ℕ, unwrap_or, Option, Some, Result, List, slice_index}
 use Rattle.byte_reader.specs.Readings.{Reading}
-use Rattle.tape_source.specs.Tags.{is_flagged}
 use Rattle.cpu8.specs.State.{next_cell}
 use Rattle.cpu8e.specs.State.{State8e, new_machine, switches_set, after_start}
-use Rattle.terminal8e.specs.Laws.{terminal_with_keys}
 use Rattle.terminal8e.specs.Run.{RunsProgram}
-use Rattle.terminal8e.specs.Terminal.{Terminal, IsRun, later}
 use Rattle.terminal8.specs.declared.outcomes.Ended.{Ended}
 use Rattle.terminal8.specs.declared.outcomes.TerminalFault.{TerminalFault}
-use Rattle.trace8e.specs.Tracing.{Traces}
-use Rattle.trace8.specs.declared.faults.TraceFault.{TraceFault}
-use Rattle.trace8e.specs.Counts.{AreCounts}
 use Rattle.program_tasks.specs.declared.tasks.TeletypeForm.{TeletypeForm}
-use Rattle.run_commands.specs.Inputs.{form_of, input_of}
+use Rattle.run_commands.specs.Inputs.{form_of, input_of, with_switches}
 use Rattle.run_commands.specs.declared.core_programs.CoreProgram.{CoreProgram}
 use Rattle.run_commands.specs.declared.printing.Stand.{Stand}
-use Rattle.run_commands.specs.declared.runs.Run.{Run}
 
 -- ## The machine
 
--- the switches are set, if that is asked for
-abbrev pub with_switches : Option ℕ → State8e → State8e
-with_switches None s = s
-with_switches (Some word) s = switches_set s word
-
 -- a new machine with the program's core, which stands at its start
 abbrev pub machine_of : CoreProgram → State8e
-machine_of program = after_start (with_switches program.switches (new_machine program.core)) program.start
+machine_of program = after_start (with_switches switches_set program.switches (new_machine program.core)) program.start
 
 -- where a machine stands
 abbrev pub stand_of : State8e → Stand
 stand_of s = record { cell = next_cell s.base; word = slice_index s.base.core (next_cell s.base); ac = s.base.ac; l = s.base.l; mq = Some s.mq }
 
--- the machine at a terminal where these keys are struck
-abbrev pub terminal_of : Run → Terminal
-terminal_of run = terminal_with_keys (machine_of run.program) run.keys.items
-
--- ## Its steps
+-- ## Its run
 
 -- a program runs at the Teletype, with these keys and this paper before and after, and ends so where the machine stands
 abbrev pub RunsTo : TeletypeForm → CoreProgram → Reading → Stand → Option (List ℕ) → Option (List ℕ) → Result Ended TerminalFault → Type 0
 RunsTo form program keys stand paper paper' done = (after : State8e)
     × RunsProgram (form_of form.is_raw) (input_of form.is_live) (unwrap_or form.steps (2 ^ 64 - 1)) (machine_of program) after keys.before keys.after paper paper' done
     × (stand ≡ stand_of after)
-
--- at most so many steps of a terminal are made; the paper gets a line of each, with the flagged cells tagged; it ends so, before this cell
-abbrev pub TracesTo : ℕ → Terminal → List Bool → ℕ → Option (List ℕ) → Option (List ℕ) → Result Ended TraceFault → Type 0
-TracesTo most t flags cell paper paper' done = (after : Terminal) × Traces (is_flagged flags) most t after paper paper' done × (cell ≡ next_cell after.machine.base)
-
--- at most so many steps of a terminal are made, which end so, before this cell; these are the counts of their fetches
-abbrev pub CountsTo : ℕ → Terminal → Ended → List ℕ → ℕ → Type 0
-CountsTo most t ended counts cell = IsRun t most ended.steps ended.why × AreCounts ended.steps t counts × (cell ≡ next_cell (later ended.steps t).machine.base)

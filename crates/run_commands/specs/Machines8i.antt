@@ -1,5 +1,5 @@
 -- What an 8/I does with a program: its run, its trace and its profile.
-use Rattle.std.specs.Prelude.{◌≡◌, ◌-◌, ◌^◌, ℕ, Bool, unwrap_or, Option, None, Some, Result, List, slice_index}
+use Rattle.std.specs.Prelude.{◌≡◌, ◌-◌, ◌^◌, ℕ, Bool, unwrap_or, Option, None, Result, List, slice_index}
 use Rattle.byte_reader.specs.Readings.{Reading}
 use Rattle.tape_source.specs.Tags.{is_flagged}
 use Rattle.cpu8.specs.State.{State, next_cell, new_machine, switches_set, after_start}
@@ -12,21 +12,16 @@ use Rattle.trace8.specs.Tracing.{Traces}
 use Rattle.trace8.specs.declared.faults.TraceFault.{TraceFault}
 use Rattle.profile8.specs.Counts.{AreCounts}
 use Rattle.program_tasks.specs.declared.tasks.TeletypeForm.{TeletypeForm}
-use Rattle.run_commands.specs.Inputs.{form_of, input_of}
+use Rattle.run_commands.specs.Inputs.{form_of, input_of, with_switches}
 use Rattle.run_commands.specs.declared.core_programs.CoreProgram.{CoreProgram}
 use Rattle.run_commands.specs.declared.printing.Stand.{Stand}
 use Rattle.run_commands.specs.declared.runs.Run.{Run}
 
 -- ## The machine
 
--- the switches are set, if that is asked for
-abbrev pub with_switches : Option ℕ → State → State
-with_switches None s = s
-with_switches (Some word) s = switches_set s word
-
 -- a new machine with the program's core, which stands at its start
 abbrev pub machine_of : CoreProgram → State
-machine_of program = after_start (with_switches program.switches (new_machine program.core)) program.start
+machine_of program = after_start (with_switches switches_set program.switches (new_machine program.core)) program.start
 
 -- where a machine stands; it has no MQ
 abbrev pub stand_of : State → Stand

@@ -5,14 +5,14 @@ ghost use Rattle.run_commands.specs.Inputs as spec;
 use terminal8::{Form, Input};
 
 /// How keys are struck.
-pub(crate) fn form_of(is_raw: bool) -> Form
+pub fn form_of(is_raw: bool) -> Form
     ensures { result ≡ spec.form_of is_raw }
 {
     if is_raw { Form::Raw } else { Form::Text }
 }
 
 /// Where keys come from.
-pub(crate) fn input_of(is_live: bool) -> Input
+pub fn input_of(is_live: bool) -> Input
     ensures { result ≡ spec.input_of is_live }
 {
     if is_live { Input::Live } else { Input::Ending }

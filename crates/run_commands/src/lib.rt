@@ -2,6 +2,8 @@
 #![tactic(auto)]
 
 mod core_programs;
+mod devices8e;
+mod drives8e;
 mod inputs;
 pub mod laws;
 mod lines;
@@ -14,6 +16,9 @@ mod runs;
 mod teletypes;
 mod traces;
 
+pub use inputs::{form_of, input_of};
+pub use machines8e::stand_of;
+pub use printing::{Stand, end_run};
 pub use profiles::profile_tape;
 pub use teletypes::run_teletype;
 pub use traces::trace_tape;

@@ -19,19 +19,19 @@ use word12::{Cell, Word};
 
 /// Where a machine stands.
 #[derive(Clone, Copy)]
-pub(crate) struct Stand {
+pub struct Stand {
     /// The cell of the next instruction, and its word.
-    pub(crate) cell: Cell,
-    pub(crate) word: Word,
-    pub(crate) ac: Word,
-    pub(crate) l: u8,
+    pub cell: Cell,
+    pub word: Word,
+    pub ac: Word,
+    pub l: u8,
 
     /// MQ, if the machine has one.
-    pub(crate) mq: Option<Word>,
+    pub mq: Option<Word>,
 }
 
 /// Prints on standard error why a machine goes no further.
-pub(crate) fn end_run<H: Host>(
+pub fn end_run<H: Host>(
     host: &mut H,
     alloc: Global,
     stand: Stand,

@@ -42,3 +42,12 @@ taken_more start now count g more = (length g.bytes, record { bytes = g.bytes; t
 
   within : MOST < length g.bytes
   within = omega (arith, most)
+
+-- one that isn't is one of no more
+pub taken_within : (start now : Option (List ℕ)) (count : ℕ) → HasGiven start now count → count ≤ MOST → (n : ℕ) × TakesBytes start now n × (n ≤ MOST)
+taken_within start now count g few = (length g.bytes, record { bytes = g.bytes; taken = g.taken; count_is = refl }, within) where
+  fewer : min (length g.bytes) (2 ^ 64 - 1) ≤ 16777216
+  fewer = rw (sym g.counted) few
+
+  within : length g.bytes ≤ 16777216
+  within = omega (arith, fewer)

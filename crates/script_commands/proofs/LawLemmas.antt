@@ -7,6 +7,7 @@ use Rattle.hosts.specs.Place.{Place, Leaves, Allows, Just, Remainder, Step as Ho
 use Rattle.hosts.specs.Saving.{IsOldOrNew}
 use Rattle.hosts.specs.Streams.{may_replace}
 use Rattle.hosts.specs.declared.faults.Durability.{Durability}
+use Rattle.hosts.specs.declared.faults.PrintFault.{PrintFault}
 use Rattle.image_files.specs.declared.reading.ImagePlace.{ImagePlace}
 use Rattle.archive_files.specs.declared.faults.ArchiveFault.{ArchiveFault}
 use Rattle.outcome.specs.declared.endings.Ending.{Ending}
@@ -31,9 +32,10 @@ use Rattle.image_kind.specs.declared.volumes.Volumes.{Volumes}
 use Rattle.image_kind.specs.declared.volumes.Volumes.TheVariants.{One, Both}
 use Rattle.image_files.specs.Reading.{FindsIn, Looks}
 use Rattle.image_files.specs.declared.images.Image.{Image}
-use Rattle.script_commands.specs.Laws.{IsInPlace, IsKeptBefore, IsOneOf, body_of, file_around, image_file}
+use Rattle.script_commands.specs.Laws.{IsInPlace, IsKeptBefore, IsOneOf, PrintNothing, body_of, file_around, image_file}
 use Rattle.script_commands.specs.Scripts.{IsOnlyRead, MountsSession, is_parted, OnlyReads, OpensFor, RunsScript, RunsSession}
-use Rattle.script_commands.specs.Steps.{Step, Saves, Fails, Replies, Prints, Refuses as RefusesPrint, Shows, Cuts, AreDone, AreKept, AreUnsaved, GetsImage, IsBodyOf, IsFileAround, IsFileOf, changes, has_saved, has_unsynced, last_image, save_ending}
+use Rattle.script_commands.specs.Steps.{Step, Saves, Fails, Replies, Prints, Refuses as RefusesPrint, Shows, Cuts, AreDone, AreKept, AreUnsaved, GetsImage, IsBodyOf, IsFileAround, IsFileOf, changes, has_saved, has_unsynced, last_image, print_fault, save_ending}
+use Rattle.script_commands.proofs.RunLemmas.{is_fault}
 
 finds-keeps : (volumes : Volumes) (body : List ℕ) → KeepsFiles (FindsIn volumes body)
 finds-keeps (One layout) body old result new p path = same path p.1
@@ -47,8 +49,8 @@ steps-keep is_typed start [] old new path done none = same path done
 steps-keep is_typed start (Saves image durability ∷ earlier) old new path done none = absurd none
 steps-keep is_typed start (Fails ending ∷ earlier) old new path done none = absurd none
 steps-keep is_typed start (Replies entry answer blocks ∷ earlier) old new path (mid, done, is) none = same path is ∙ steps-keep is_typed start earlier old mid path done none
-steps-keep is_typed start (Prints bytes ∷ earlier) old new path (mid, done, (all, is)) none = same path is ∙ steps-keep is_typed start earlier old mid path done none
-steps-keep is_typed start (RefusesPrint why bytes ∷ earlier) old new path (mid, done, is) none = same path is ∙ steps-keep is_typed start earlier old mid path done none
+steps-keep is_typed start (Prints bytes ∷ earlier) old new path (mid, done, (going, all, is)) none = same path is ∙ steps-keep is_typed start earlier old mid path done none
+steps-keep is_typed start (RefusesPrint why bytes ∷ earlier) old new path (mid, done, (going, is)) none = same path is ∙ steps-keep is_typed start earlier old mid path done none
 steps-keep is_typed start (Shows form ∷ earlier) old new path (mid, done, (typed, ok, is)) none = same path is ∙ steps-keep is_typed start earlier old mid path done none
 steps-keep is_typed start (Cuts ∷ earlier) old new path (mid, done, (ok, is)) none = same path is ∙ steps-keep is_typed start earlier old mid path done none
 
@@ -95,6 +97,29 @@ kept-before is_typed start (Prints bytes ∷ later) earlier entry answer blocks 
 kept-before is_typed start (RefusesPrint why bytes ∷ later) earlier entry answer blocks old new done kept changed = kept-before is_typed start later earlier entry answer blocks old done.0 done.1 kept changed
 kept-before is_typed start (Shows form ∷ later) earlier entry answer blocks old new done kept changed = kept-before is_typed start later earlier entry answer blocks old done.0 done.1 kept changed
 kept-before is_typed start (Cuts ∷ later) earlier entry answer blocks old new done kept changed = kept-before is_typed start later earlier entry answer blocks old done.0 done.1 kept changed
+
+-- ## Prints
+
+has-failed : (later earlier : List Step) (fault : PrintFault) (bytes : List ℕ) → print_fault (later ++ RefusesPrint fault bytes ∷ earlier) ≡ None → ⊥
+has-failed [] earlier fault bytes none = is_fault fault none
+has-failed (Saves image durability ∷ later) earlier fault bytes none = has-failed later earlier fault bytes none
+has-failed (Fails ending ∷ later) earlier fault bytes none = has-failed later earlier fault bytes none
+has-failed (Replies entry answer blocks ∷ later) earlier fault bytes none = has-failed later earlier fault bytes none
+has-failed (Prints more ∷ later) earlier fault bytes none = has-failed later earlier fault bytes none
+has-failed (RefusesPrint why more ∷ later) earlier fault bytes none = is_fault why none
+has-failed (Shows form ∷ later) earlier fault bytes none = has-failed later earlier fault bytes none
+has-failed (Cuts ∷ later) earlier fault bytes none = has-failed later earlier fault bytes none
+
+pub no-more : (is_typed : Bool) (start : Image) (later earlier : List Step) (fault : PrintFault) (bytes : List ℕ) (old new : List Event)
+    → AreDone is_typed start (later ++ RefusesPrint fault bytes ∷ earlier) old new → PrintNothing later
+no-more is_typed start [] earlier fault bytes old new done = tt
+no-more is_typed start (Saves image durability ∷ later) earlier fault bytes old new done = no-more is_typed start later earlier fault bytes old done.0 done.1
+no-more is_typed start (Fails ending ∷ later) earlier fault bytes old new done = no-more is_typed start later earlier fault bytes old done.0 done.1
+no-more is_typed start (Replies entry answer blocks ∷ later) earlier fault bytes old new done = no-more is_typed start later earlier fault bytes old done.0 done.1
+no-more is_typed start (Prints more ∷ later) earlier fault bytes old new (mid, done, it) = absurd (has-failed later earlier fault bytes it.0)
+no-more is_typed start (RefusesPrint why more ∷ later) earlier fault bytes old new (mid, done, it) = absurd (has-failed later earlier fault bytes it.0)
+no-more is_typed start (Shows form ∷ later) earlier fault bytes old new done = no-more is_typed start later earlier fault bytes old done.0 done.1
+no-more is_typed start (Cuts ∷ later) earlier fault bytes old new done = no-more is_typed start later earlier fault bytes old done.0 done.1
 
 -- ## Crashes
 
@@ -168,7 +193,7 @@ crash-leaves is_typed start (Fails ending ∷ earlier) old new done none place f
   some-none : (it : Ending) → Some it ≡ None → ⊥
   some-none it gone = subst is-there gone tt
 crash-leaves is_typed start (Replies entry answer blocks ∷ earlier) old new (mid, done, is) none place found left = later-leaves is_typed start (Replies entry answer blocks) earlier old place found (λ it. it) (crash-leaves is_typed start earlier old mid done none place found (still start.place.path.bytes.items mid new place found (same start.place.path.bytes.items is) left))
-crash-leaves is_typed start (Prints bytes ∷ earlier) old new (mid, done, (all, is)) none place found left = later-leaves is_typed start (Prints bytes) earlier old place found (λ it. it) (crash-leaves is_typed start earlier old mid done none place found (still start.place.path.bytes.items mid new place found (same start.place.path.bytes.items is) left))
-crash-leaves is_typed start (RefusesPrint why bytes ∷ earlier) old new (mid, done, is) none place found left = later-leaves is_typed start (RefusesPrint why bytes) earlier old place found (λ it. it) (crash-leaves is_typed start earlier old mid done none place found (still start.place.path.bytes.items mid new place found (same start.place.path.bytes.items is) left))
+crash-leaves is_typed start (Prints bytes ∷ earlier) old new (mid, done, (going, all, is)) none place found left = later-leaves is_typed start (Prints bytes) earlier old place found (λ it. it) (crash-leaves is_typed start earlier old mid done none place found (still start.place.path.bytes.items mid new place found (same start.place.path.bytes.items is) left))
+crash-leaves is_typed start (RefusesPrint why bytes ∷ earlier) old new (mid, done, (going, is)) none place found left = later-leaves is_typed start (RefusesPrint why bytes) earlier old place found (λ it. it) (crash-leaves is_typed start earlier old mid done none place found (still start.place.path.bytes.items mid new place found (same start.place.path.bytes.items is) left))
 crash-leaves is_typed start (Shows form ∷ earlier) old new (mid, done, (typed, ok, is)) none place found left = later-leaves is_typed start (Shows form) earlier old place found (λ it. it) (crash-leaves is_typed start earlier old mid done none place found (still start.place.path.bytes.items mid new place found (same start.place.path.bytes.items is) left))
 crash-leaves is_typed start (Cuts ∷ earlier) old new (mid, done, (ok, is)) none place found left = later-leaves is_typed start Cuts earlier old place found (λ it. it) (crash-leaves is_typed start earlier old mid done none place found (still start.place.path.bytes.items mid new place found (same start.place.path.bytes.items is) left))

@@ -14,7 +14,7 @@ use Rattle.program_tasks.specs.declared.tasks.Saving.TheVariants.{Never}
 use Rattle.system_session.specs.ShownAnswers.{ShownAnswer}
 use Rattle.image_files.specs.declared.images.Image.{Image}
 use Rattle.script_commands.specs.Steps.{Step, AreReplies, StaysUnsaved, Saves, Fails, Replies, Prints, Refuses, Shows, Cuts, is_unknown, or_else, print_fault, printed_text, replies_of, reply_text, save_ending}
-use Rattle.script_commands.specs.RunSteps.{Adds, HasDone, HasEnded, IsAfterPrint, MayPrint, Gets, PrintsLines, TellsCut, TellsForm}
+use Rattle.script_commands.specs.RunSteps.{Adds, HasDone, HasEnded, IsAfterPrint, MayPrint, Gets, PrintsLines, TellsForm}
 use Rattle.script_commands.specs.declared.progress.Progress.{Progress}
 
 -- ## What was printed
@@ -100,34 +100,11 @@ cut_short start old mid new xs p ok d is = record {
   never = d.never;
 }
 
--- no note says so
-not_cut : (start : Image) (old new : List Event) (xs : List ShownAnswer) (p : Progress) → HasDone start old xs p new → p.is_cut ≡ false → HasDone start old xs (record p { is_cut = false }) new
-not_cut start old new xs p d whole = record {
-  steps = d.steps;
-  done = d.done;
-  image = d.image;
-  place = d.place;
-  sync = d.sync;
-  refused = d.refused;
-  why = d.why;
-  fault = d.fault;
-  cut = sym whole ∙ d.cut;
-  replies = d.replies;
-  waiting = d.waiting;
-  text = d.text;
-  kept = d.kept;
-  never = d.never;
-}
-
-pub limit_told : (start : Image) (old mid new : List Event) (xs : List ShownAnswer) (p : Progress) (is_told : Bool) → HasDone start old xs p mid → p.is_cut ≡ false → TellsCut is_told mid new → HasDone start old xs (record p { is_cut = is_told }) new
-limit_told start old mid new xs p true d whole (ok, is) = cut_short start old mid new xs p ok d is
-limit_told start old mid new xs p false d whole same = subst (λ (h : List Event). HasDone start old xs (record p { is_cut = false }) h) (sym same) (not_cut start old mid xs p d whole)
-
 -- all lines that wait are printed
-pub printed : (start : Image) (old mid new : List Event) (xs : List ShownAnswer) (p : Progress) (lines : Vec ℕ) → HasDone start old xs p mid → lines.items ≡ [] → new ≡ print_call true 0 p.lines.items ∷ mid → HasDone start old xs (record p { lines = lines }) new
-printed start old mid new xs p lines d none is = record {
+pub printed : (start : Image) (old mid new : List Event) (xs : List ShownAnswer) (p : Progress) (lines : Vec ℕ) → HasDone start old xs p mid → p.fault ≡ None → lines.items ≡ [] → new ≡ print_call true 0 p.lines.items ∷ mid → HasDone start old xs (record p { lines = lines }) new
+printed start old mid new xs p lines d going none is = record {
   steps = Prints p.lines.items ∷ d.steps;
-  done = (mid, d.done, (d.waiting, is));
+  done = (mid, d.done, (sym d.fault ∙ going, d.waiting, is));
   image = d.image;
   place = d.place;
   sync = d.sync;
@@ -165,13 +142,13 @@ abbrev is_faulty : Option PrintFault → Type 0
 is_faulty None = ⊥
 is_faulty (Some it) = Unit {0}
 
-is_fault : (it : PrintFault) → Some it ≡ None → ⊥
+pub is_fault : (it : PrintFault) → Some it ≡ None → ⊥
 is_fault it gone = subst is_faulty gone tt
 
-pub refused : (start : Image) (old mid new : List Event) (xs : List ShownAnswer) (p : Progress) (why : PrintFault) (bytes : List ℕ) → HasDone start old xs p mid → new ≡ print_call false (pipe_number why) bytes ∷ mid → HasDone start old xs (record p { fault = Some why }) new
-refused start old mid new xs p why bytes d is = record {
+pub refused : (start : Image) (old mid new : List Event) (xs : List ShownAnswer) (p : Progress) (why : PrintFault) (bytes : List ℕ) → HasDone start old xs p mid → p.fault ≡ None → new ≡ print_call false (pipe_number why) bytes ∷ mid → HasDone start old xs (record p { fault = Some why }) new
+refused start old mid new xs p why bytes d going is = record {
   steps = Refuses why bytes ∷ d.steps;
-  done = (mid, d.done, is);
+  done = (mid, d.done, (sym d.fault ∙ going, is));
   image = d.image;
   place = d.place;
   sync = d.sync;
@@ -237,7 +214,7 @@ pub replied_now : (start : Image) (old mid new : List Event) (xs : List ShownAns
 replied_now start old mid new xs p is_refused [] one d m none is = subst (λ (h : List Event). HasDone start old (xs ++ one ∷ []) (record p { is_refused = or_else is_refused p.is_refused }) h) (sym is) (replied start old mid xs p is_refused [] p.lines one d m (sym (append-nil _)))
 replied_now start old mid new xs p is_refused (byte ∷ bytes) one d m none is = record {
   steps = Prints (byte ∷ bytes) ∷ Replies one.entry one.answer one.blocks ∷ d.steps;
-  done = (mid, (mid, d.done, refl), (all, is));
+  done = (mid, (mid, d.done, refl), (sym d.fault ∙ m.printed, all, is));
   image = d.image;
   place = d.place;
   sync = d.sync;
@@ -264,15 +241,15 @@ pub text_printed : (bytes : List ℕ) (mid new : List Event) → PrintsLines byt
 text_printed [] mid new is = ap output_text is ∙ sym (append-nil _)
 text_printed (byte ∷ bytes) mid new is = ap output_text is
 
-pub all_printed : (start : Image) (old mid new : List Event) (xs : List ShownAnswer) (p : Progress) (lines : Vec ℕ) → HasDone start old xs p mid → lines.items ≡ [] → PrintsLines p.lines.items (Ok tt) mid new → HasDone start old xs (record p { lines = lines }) new
-all_printed start old mid new xs p lines d none is = go p.lines.items refl is where
+pub all_printed : (start : Image) (old mid new : List Event) (xs : List ShownAnswer) (p : Progress) (lines : Vec ℕ) → HasDone start old xs p mid → p.fault ≡ None → lines.items ≡ [] → PrintsLines p.lines.items (Ok tt) mid new → HasDone start old xs (record p { lines = lines }) new
+all_printed start old mid new xs p lines d going none is = go p.lines.items refl is where
   go : (bytes : List ℕ) → p.lines.items ≡ bytes → PrintsLines bytes (Ok tt) mid new → HasDone start old xs (record p { lines = lines }) new
   go [] are same = subst (λ (h : List Event). HasDone start old xs (record p { lines = lines }) h) (sym same) (nothing_printed start old mid xs p lines d (none ∙ sym are))
-  go (byte ∷ bytes) are same = printed start old mid new xs p lines d none (same ∙ ap (λ (b : List ℕ). print_call true 0 b ∷ mid) (sym are))
+  go (byte ∷ bytes) are same = printed start old mid new xs p lines d going none (same ∙ ap (λ (b : List ℕ). print_call true 0 b ∷ mid) (sym are))
 
-pub not_printed : (start : Image) (old mid new : List Event) (xs : List ShownAnswer) (p : Progress) (why : PrintFault) (bytes : List ℕ) → HasDone start old xs p mid → PrintsLines bytes (Err why) mid new → HasDone start old xs (record p { fault = Some why }) new
-not_printed start old mid new xs p why [] d is = absurd is
-not_printed start old mid new xs p why (byte ∷ bytes) d is = refused start old mid new xs p why (byte ∷ bytes) d is
+pub not_printed : (start : Image) (old mid new : List Event) (xs : List ShownAnswer) (p : Progress) (why : PrintFault) (bytes : List ℕ) → HasDone start old xs p mid → p.fault ≡ None → PrintsLines bytes (Err why) mid new → HasDone start old xs (record p { fault = Some why }) new
+not_printed start old mid new xs p why [] d going is = absurd is
+not_printed start old mid new xs p why (byte ∷ bytes) d going is = refused start old mid new xs p why (byte ∷ bytes) d going is
 
 pub added : (start : Image) (old new : List Event) (xs : List ShownAnswer) (p q : Progress) (is_refused : Bool) (bytes : List ℕ) (one : ShownAnswer) → HasDone start old xs p new → MayPrint is_refused p bytes one → Adds is_refused bytes p q → HasDone start old (xs ++ one ∷ []) q new
 added start old new xs p q is_refused bytes one d m it = subst (λ (r : Progress). HasDone start old (xs ++ one ∷ []) r new) (sym it.1) (replied start old new xs p is_refused bytes q.lines one d m it.0)
@@ -282,7 +259,7 @@ pub after_now : (start : Image) (old mid new : List Event) (xs : List ShownAnswe
 after_now start old mid new xs p q is_refused bytes one (Ok it) d m none is after =
     subst (λ (r : Progress). HasDone start old (xs ++ one ∷ []) r new) (sym after) (replied_now start old mid new xs p is_refused bytes one d m none is)
 after_now start old mid new xs p q is_refused bytes one (Err why) d m none is after = subst (λ (r : Progress). HasDone start old (xs ++ one ∷ []) r new) (sym after)
-    (passed_over start old new xs (record p { fault = Some why }) one (not_printed start old mid new xs p why bytes d is) (inr (is_fault why)))
+    (passed_over start old new xs (record p { fault = Some why }) one (not_printed start old mid new xs p why bytes d m.printed is) (inr (is_fault why)))
 
 pub may_still : (p q : Progress) (is_refused : Bool) (bytes : List ℕ) (one : ShownAnswer) → MayPrint is_refused p bytes one → q.save_ending ≡ p.save_ending → q.fault ≡ p.fault → q.saving ≡ p.saving → q.image ≡ p.image → MayPrint is_refused q bytes one
 may_still p q is_refused bytes one m save_ending fault saving image = record {

@@ -20,7 +20,7 @@ use Rattle.system_session.specs.Session.{IsLater, NoCallFailed, SessionView, sta
 use Rattle.volume_image.specs.Image.{IsImageOf}
 use Rattle.image_files.specs.declared.images.Image.{Image}
 use Rattle.script_commands.specs.Scripts.{EndsRun, RunsSession}
-use Rattle.script_commands.specs.Steps.{AreDone, has_refusal, last_image, printed_text, reply_text, print_fault, save_ending}
+use Rattle.script_commands.specs.Steps.{AreDone, has_refusal, last_image, printed_text, reply_text, print_fault, save_ending, has_cut}
 use Rattle.script_commands.specs.RunSteps.{HasDone}
 use Rattle.script_commands.specs.declared.progress.Progress.{Progress}
 use Rattle.script_commands.proofs.RunLemmas.{none_done, same_text}
@@ -86,9 +86,9 @@ module _
     (shows : ShowsText 16777216 (state_of session) shown (state_of end) input left (Some (output_text old)) (Some (output_text ran ++ p.lines.items)) answer)
     (cause : IfErr answer (λ e. e ≡ Reader → MayReadNoMore 16777216 has_failed input left))
     (stopped : IfErr answer (λ e. e ≡ Writer → (p.save_ending ≡ None → ⊥) ⊎ (p.fault ≡ None → ⊥)))
-    (long : is_long ≡ true → (count : ℕ) × TakesBytes input left count × (MOST < count))
+    (long : is_long ≡ true → (count : ℕ) × TakesBytes input left count × (MOST < count)) (short : is_long ≡ false → (count : ℕ) × TakesBytes input left count × (count ≤ MOST))
     (done-q : (start : Image) (before : List Event) (those : List ShownAnswer) → HasDone start before those p ran → HasDone start before those q limit)
-    (out-q : output_text limit ≡ output_text ran) (is-q : q ≡ record p { is_cut = q.is_cut }) (cut-q : q.is_cut ≡ true → is_long ≡ true)
+    (out-q : output_text limit ≡ output_text ran) (is-q : q ≡ record p { is_cut = q.is_cut }) (cut-q : q.is_cut ≡ is_long)
     (done-r : (start : Image) (before : List Event) (those : List ShownAnswer) → HasDone start before those q limit → HasDone start before those r last)
     (image-r : (q.saving ≡ Never → ⊥) → r.save_ending ≡ None → IsImageOf r.image.bytes.items blocks) (blocks-are : blocks ≡ end.volume.blocks)
     (was-r : r.save_ending ≡ None → q.save_ending ≡ None) (fault-r : r.fault ≡ q.fault) (out-r : output last ≡ output limit) (lines-r : r.lines ≡ q.lines)
@@ -115,6 +115,9 @@ module _
 
     replies : output_text new ++ s.lines.items ≡ output_text old ++ reply_text d.steps
     replies = ap (λ (t : List ℕ). t ++ s.lines.items) d.text ∙ (append_assoc (output_text old) (printed_text d.steps) s.lines.items ∙ ap (λ (t : List ℕ). output_text old ++ t) (sym d.waiting))
+
+    was-long : is_long ≡ has_cut d.steps
+    was-long = sym cut-q ∙ (sym (cut-s ∙ cut-r) ∙ d.cut)
 
     was-saved : save_ending d.steps ≡ None → p.save_ending ≡ None
     was-saved none = sym (ap (λ (x : Progress). x.save_ending) is-q) ∙ was-r (sym save_ending-s ∙ (d.why ∙ none))
@@ -155,6 +158,7 @@ module _
       saved = saved;
       cause = λ is. ended_by Reader _ answer cause is;
       stopped = λ is. stops (ended_by Writer _ answer stopped is);
-      cut = λ is. long (cut-q (sym (cut-s ∙ cut-r) ∙ (d.cut ∙ is)));
+      cut = λ is. long (was-long ∙ is);
+      whole = λ is. short (was-long ∙ is);
       ends = ended;
     }

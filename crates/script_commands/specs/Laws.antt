@@ -47,3 +47,14 @@ pub record IsKeptBefore (is_typed : Bool) (start : Image) (earlier : List Step) 
   pub moment : List Event
   pub done : AreDone is_typed start earlier old moment
   pub saved : IsImageOf (last_image start earlier).bytes.items blocks
+
+-- none of these steps printed lines, or tried to
+abbrev pub PrintNothing : List Step → Type 0
+PrintNothing [] = Unit {0}
+PrintNothing (Saves image durability ∷ earlier) = PrintNothing earlier
+PrintNothing (Fails ending ∷ earlier) = PrintNothing earlier
+PrintNothing (Replies entry answer blocks ∷ earlier) = PrintNothing earlier
+PrintNothing (Prints bytes ∷ earlier) = ⊥
+PrintNothing (Refuses fault bytes ∷ earlier) = ⊥
+PrintNothing (Shows form ∷ earlier) = PrintNothing earlier
+PrintNothing (Cuts ∷ earlier) = PrintNothing earlier

@@ -18,7 +18,7 @@ use Rattle.hosts.specs.declared.faults.Unwritten.TheVariants as unwritten
 use Rattle.outcome.specs.declared.endings.Ending.{Ending}
 use Rattle.outcome.specs.declared.endings.Ending.TheVariants.{NotWritten}
 use Rattle.outcome.specs.declared.notes.FileNote.TheVariants.{NoSync}
-use Rattle.outcome.specs.declared.notes.NameNote.TheVariants.{Hint, TooLong}
+use Rattle.outcome.specs.declared.notes.NameNote.TheVariants.{Hint}
 use Rattle.program_tasks.specs.declared.tasks.Saving.TheVariants.{Never, Always}
 use Rattle.script8.specs.Replies.{answer_lines}
 use Rattle.system_session.specs.ShownAnswers.{ShownAnswer}
@@ -123,8 +123,3 @@ IsAfterPrint is_refused (Err fault) before after = after ≡ record before { fau
 -- a person is shown the form of a line, unless memory is wanted for it
 abbrev pub TellsForm : List ℕ → List Event → List Event → Type 0
 TellsForm form old new = (new ≡ old) ⊎ ((ok : Bool) × (new ≡ tell_call ok (name_text Hint form) ∷ old))
-
--- a note says that the script has more bytes than are read, or memory is wanted for it
-abbrev pub TellsCut : Bool → List Event → List Event → Type 0
-TellsCut true old new = (ok : Bool) × (new ≡ tell_call ok (name_text TooLong (codes "standard input")) ∷ old)
-TellsCut false old new = new ≡ old

@@ -1,5 +1,5 @@
 -- The command that runs a script over the volume of an image file.
-use Rattle.std.specs.Prelude.{◌≡◌, ◌≢◌, ◌⊎◌, ◌&&◌, ◌<◌, ℕ, List, [], ◌++◌, is_some, length, not, Bool, true, false, if◌then◌else◌, Option, None, Some, Result, Ok, Err}
+use Rattle.std.specs.Prelude.{◌≡◌, ◌≢◌, ◌⊎◌, ◌&&◌, ◌<◌, ◌≤◌, ℕ, List, [], ◌++◌, is_some, length, not, Bool, true, false, if◌then◌else◌, Option, None, Some, Result, Ok, Err}
 use Rattle.std.specs.Global.{Vec}
 use Rattle.word12.specs.declared.sizes.TheConstants.{CORE}
 use Rattle.core_load.specs.Core.{zeros}
@@ -143,6 +143,7 @@ pub record RunsSession (form : RunForm) (is_typed : Bool) (image : Image) (sessi
   pub cause : answer ≡ Err Reader → MayReadNoMore 16777216 input.has_failed input.before input.after
   pub stopped : answer ≡ Err Writer → (save_ending steps ≢ None) ⊎ (print_fault steps ≢ None)
   pub cut : has_cut steps ≡ true → (count : ℕ) × TakesBytes input.before input.after count × (MOST < count)
+  pub whole : has_cut steps ≡ false → (count : ℕ) × TakesBytes input.before input.after count × (count ≤ MOST)
   pub ends : EndsRun form.saving form.is_strict (has_refusal steps) (save_ending steps) (print_fault steps) answer result
 
 -- A script runs over a session of an image's volume, unless memory is wanted, or the image is refused.

@@ -230,14 +230,14 @@ StaysUnsaved before ending old new = Lacks old ending new
     ⊎ ((before.place.is_held ≡ true) × (file : List ℕ) × IsUnwritten before.judgment before.place.path.bytes.items before.place.name.bytes.items file ending old new))
 
 -- What a step did after earlier ones, from the calls before it to those after it. Where a save failed, none is tried again. All lines
--- that wait are printed at once.
+-- that wait are printed at once. After a print that failed there is none.
 abbrev pub Does : Bool → Image → List Step → Step → List Event → List Event → Type 0
 Does is_typed start earlier (Saves image durability) old new = (save_ending earlier ≡ None)
     × GetsImage (has_saved earlier) (has_unsynced earlier) (last_image start earlier) image durability old new
 Does is_typed start earlier (Fails ending) old new = (save_ending earlier ≡ None) × StaysUnsaved (last_image start earlier) ending old new
 Does is_typed start earlier (Replies entry answer blocks) old new = new ≡ old
-Does is_typed start earlier (Prints bytes) old new = (reply_text earlier ≡ printed_text earlier ++ bytes) × (new ≡ print_call true 0 bytes ∷ old)
-Does is_typed start earlier (Refuses fault bytes) old new = new ≡ print_call false (pipe_number fault) bytes ∷ old
+Does is_typed start earlier (Prints bytes) old new = (print_fault earlier ≡ None) × (reply_text earlier ≡ printed_text earlier ++ bytes) × (new ≡ print_call true 0 bytes ∷ old)
+Does is_typed start earlier (Refuses fault bytes) old new = (print_fault earlier ≡ None) × (new ≡ print_call false (pipe_number fault) bytes ∷ old)
 Does is_typed start earlier (Shows form) old new = (is_typed ≡ true) × (ok : Bool) × (new ≡ tell_call ok (name_text Hint form) ∷ old)
 Does is_typed start earlier Cuts old new = (ok : Bool) × (new ≡ tell_call ok (name_text TooLong (codes "standard input")) ∷ old)
 

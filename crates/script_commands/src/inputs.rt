@@ -1,5 +1,5 @@
 //! A reader of which it is known how many bytes it gave.
-ghost use Rattle.std.specs.Prelude.{◌≡◌, ◌<◌, true};
+ghost use Rattle.std.specs.Prelude.{◌≡◌, ◌<◌, ◌≤◌, false, true};
 ghost use Rattle.refusals.specs.declared.faults.TheConstants.{MOST};
 
 use byte_reader::ByteReader;
@@ -24,7 +24,8 @@ impl<'a, I> CountedInput<'a, I> {
 
     /// Whether it gave more bytes than a script may have.
     pub(crate) fn is_too_long(&self) -> bool
-        ensures { result ≡ true → MOST < self.now.count }
+        ensures long { result ≡ true → MOST < self.now.count }
+        ensures short { result ≡ false → self.now.count ≤ MOST }
     {
         self.count > MOST
     }

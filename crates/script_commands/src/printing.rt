@@ -86,7 +86,7 @@ pub(crate) fn print_waiting<H: Host>(
     host: &mut H,
     progress: &mut Progress,
 ) -> Result<(), PrintFault>
-    ensures done { (start : ImageState) (old : List Event) (shown : List ShownAnswer)
+    ensures done { (start : ImageState) (old : List Event) (shown : List ShownAnswer) → progress.old.fault ≡ None
         → HasDone start old shown progress.old (H.history host.old) → HasDone start old shown progress.new (H.history host.new) }
     ensures text { output_text (H.history host.new) ++ progress.new.lines.items
         ≡ output_text (H.history host.old) ++ progress.old.lines.items }

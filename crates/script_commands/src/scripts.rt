@@ -1,12 +1,14 @@
 //! The command that runs a script.
-ghost use Rattle.std.specs.Prelude.{◌≡◌, ◌++◌, List, [], None, is_some, length, true, false};
+ghost use Rattle.std.specs.Prelude.{◌≡◌, ◌∷◌, ◌++◌, List, [], None, codes, is_some, length, true, false};
 ghost use Rattle.byte_reader.specs.Readings.{reading};
-ghost use Rattle.hosts.specs.Event.{Event};
+ghost use Rattle.hosts.specs.Event.{Event, tell_call};
 ghost use Rattle.hosts.specs.Streams.{output_text};
+ghost use Rattle.outcome.specs.Notes.{name_text};
+ghost use Rattle.outcome.specs.declared.notes.NameNote.TheVariants.{TooLong};
 ghost use Rattle.system_session.specs.ShownAnswers.{ShownAnswer};
 ghost use Rattle.image_files.specs.Answers.{Answers};
 ghost use Rattle.image_files.specs.declared.images.Image.{Image as ImageState};
-ghost use Rattle.script_commands.specs.RunSteps.{HasDone, TellsCut};
+ghost use Rattle.script_commands.specs.RunSteps.{HasDone};
 ghost use Rattle.script_commands.specs.Scripts as spec;
 ghost use Rattle.script_commands.specs.Scripts.{IsRoom, MountsSession, OpensFor, OnlyReads, RunsOver, RunsScript, RunsSession, EndsRun};
 
@@ -21,11 +23,10 @@ use byte_reader::ByteReader;
 use hosts::{Host, HostFault, PrintFault};
 use image_files::{
     Image, ImagePlace, ending_after, judge_file, look_file, refuse_image, script_volume_in,
-    tell_note,
 };
 use image_kind::Judgment;
 use os8_dir::DirFault;
-use outcome::{Ending, NameNote, Note};
+use outcome::Ending;
 use program_tasks::{ImageForm, RunForm, Saving};
 use refusals::SessionFault;
 use std::alloc::Global;
@@ -211,35 +212,32 @@ fn run_session<H: Host, I: ByteReader>(
     } = run;
     let mut progress = progress;
     let mut spare = spare;
-    tell_of_limit(host, alloc, &mut progress, input.is_too_long());
+    tell_of_limit(host, &mut progress, input.is_too_long());
     save_last(host, alloc, &mut progress, &mut spare, &store);
     print_last(host, &mut progress);
     end_script(progress, form.is_strict, answer)
 }
 
 /// Prints a note where standard input has more bytes than are read.
-fn tell_of_limit<H: Host>(host: &mut H, alloc: Global, progress: &mut Progress, is_too_long: bool)
+fn tell_of_limit<H: Host>(host: &mut H, progress: &mut Progress, is_too_long: bool)
     requires { progress.old.is_cut ≡ false }
     ensures done { (start : ImageState) (old : List Event) (shown : List ShownAnswer)
         → HasDone start old shown progress.old (H.history host.old) → HasDone start old shown progress.new (H.history host.new) }
     ensures output { output_text (H.history host.new) ≡ output_text (H.history host.old) }
     ensures progress { progress.new ≡ record progress.old { is_cut = progress.new.is_cut } }
-    ensures cut { progress.new.is_cut ≡ true → is_too_long ≡ true }
+    ensures cut { progress.new.is_cut ≡ is_too_long }
 {
     if is_too_long {
-        progress.is_cut = has_told_limit(host, alloc);
+        tell_limit(host);
+        progress.is_cut = true;
     }
 }
 
-/// Prints a note that standard input has more bytes than are read, unless memory is wanted for it, and answers whether it did.
-fn has_told_limit<H: Host>(host: &mut H, alloc: Global) -> bool
-    ensures { TellsCut result (H.history host.old) (H.history host.new) }
+/// Prints a note that standard input has more bytes than are read, for which no memory is taken.
+fn tell_limit<H: Host>(host: &mut H)
+    ensures { (ok : _) × (H.history host.new ≡ tell_call ok (name_text TooLong (codes "standard input")) ∷ H.history host.old) }
 {
-    let note = Note::OnName(NameNote::TooLong, "standard input");
-    match tell_note(host, alloc, note) {
-        Ok(()) => true,
-        Err(_) => false,
-    }
+    let _ = host.tell("note: standard input: larger than 16777216 bytes\n");
 }
 
 /// Prints the lines that wait where a save ended the run. Standard output that took no more is not tried again.

@@ -157,7 +157,7 @@ fn keep_change<H: Host>(
 }
 
 impl<'a, H: Host> Watcher<MemoryVolume> for Run<'a, H> {
-    ghost use Rattle.std.specs.Prelude.{◌≡◌, ◌++◌, Some};
+    ghost use Rattle.std.specs.Prelude.{◌≡◌, ◌++◌, [], Some};
     ghost use Rattle.hosts.specs.Streams.{output_text};
     ghost use Rattle.script_commands.specs.RunSteps.{HasDone, HasEnded};
 
@@ -170,6 +170,8 @@ impl<'a, H: Host> Watcher<MemoryVolume> for Run<'a, H> {
     ghost was_shown = { λ first shown r. HasDone first.progress.image (H.history first.host.now) shown r.progress (H.history r.host.now) };
 
     ghost has_ended = { λ r. HasEnded r.progress };
+
+    ghost is_flushed = { λ r. r.progress.lines.items ≡ [] };
 
     fn begins(&mut self, lines: &[u8]) {
         if let Some(forms) = self.forms {
@@ -200,6 +202,9 @@ impl<'a, H: Host> Watcher<MemoryVolume> for Run<'a, H> {
     }
 
     fn flush(&mut self) -> io::Result<()> {
+        if self.progress.fault.is_some() {
+            return Err(io::Error::from(ErrorKind::Other));
+        }
         match print_waiting(self.host, &mut self.progress) {
             Ok(()) => Ok(()),
             Err(_) => Err(io::Error::from(ErrorKind::Other)),

@@ -262,8 +262,7 @@ begun-reads false old new (inr p) = reads (terminal_call true 1 ∷ terminal_cal
 
 end-reads : (is_told : Bool) (old new : List Event) → EndsProgress is_told old new → read new ≡ read old
 end-reads false old new p = reads old new p
-end-reads true old new (inl p) = reads old new p
-end-reads true old new (inr p) = reads (tell_call p.0 (0o33 ∷ codes "[K") ∷ old) new p.1
+end-reads true old new p = reads (tell_call p.0 (0o33 ∷ codes "[K") ∷ old) new p.1
 
 is-zero : (n : ℕ) → nat_eq n 0 ≡ true → n ≡ 0
 is-zero n is = grind (arith, nat_tests)

@@ -2,8 +2,9 @@
 ghost use Rattle.std.specs.Prelude.{◌≡◌, ◌∷◌, [], MatchOption, Some};
 ghost use Rattle.std.specs.Fmt.{WritesOnOk};
 ghost use Rattle.shown_text.specs.Showing.{shown_text, shown_byte};
+ghost use Rattle.shown_text.specs.declared.bytes.TheConstants.{BLANK};
 
-use crate::bytes::{escape, is_plain};
+use crate::bytes::{BLANK, escape, is_plain};
 use std::fmt;
 
 /// A text as it is shown in a line (this project's profile). Showing it takes no memory.
@@ -44,9 +45,9 @@ fn next_byte(bytes: &[u8]) -> Option<(u8, &[u8])>
 
 /// Writes a byte as it is shown.
 fn write_byte<W: fmt::Write>(byte: u8, f: &mut fmt::Formatter<W>) -> fmt::Result
-    ensures { WritesOnOk W.write_str_gives f.old result (shown_byte byte) f.new }
+    ensures { WritesOnOk W.write_str_gives f.old result (shown_byte BLANK byte) f.new }
 {
-    if is_plain(byte) {
+    if is_plain(BLANK, byte) {
         return f.write_char(char::from(byte));
     }
     f.write_str(str::from_utf8(&escape(byte)).map_err(|_| fmt::Error)?)

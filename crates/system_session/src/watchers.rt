@@ -27,6 +27,9 @@ pub trait Watcher<S: BlockStore> {
     /// It has ended the run, or it could not print.
     ghost has_ended: { Self → Type 0 };
 
+    /// No line waits to be handed on.
+    ghost is_flushed: { Self → Type 0 };
+
     /// An item of the script comes next, of these lines.
     fn begins(&mut self, lines: &[u8])
         ensures contents { contents self.new ≡ contents self.old }
@@ -48,8 +51,9 @@ pub trait Watcher<S: BlockStore> {
             → was_shown first shown self.old
             → was_shown first (shown ++ record { entry = entry; answer = answer.now; blocks = S.contents store.now } ∷ []) self.new };
 
-    /// Hands on what was printed.
+    /// Hands on what was printed. Before the script is read on, this is done.
     fn flush(&mut self) -> io::Result<()>
+        ensures flushed { OnOk result (is_flushed self.new) }
         ensures printed { OnOk result (Appends (contents self.old) (contents self.new) []) }
         ensures stopped { OnErr result (has_ended self.new) }
         ensures kept { (first : Self) → follows first self.old → follows first self.new }
@@ -78,6 +82,8 @@ impl<'a, S: BlockStore, W: Write> Watcher<S> for Unwatched<'a, W> {
     ghost was_shown = { λ _ _ _. Unit {0} };
 
     ghost has_ended = { λ _. Unit {0} };
+
+    ghost is_flushed = { λ _. Unit {0} };
 
     fn begins(&mut self, _lines: &[u8]) {}
 

@@ -2,5 +2,6 @@ pub mod WaitLemmas
 pub mod TerminalLemmas
 pub mod LookLemmas
 pub mod RunLemmas
+pub mod PartLemmas
 pub mod LaterLemmas
 pub mod EndLemmas

@@ -1,17 +1,14 @@
 -- A run, as far as it has come.
-use Rattle.std.proofs.Common.{◌≡◌, ◌⊎◌, inl, inr, ℕ, ◌+◌, ◌<◌, ◌≤◌, Bool, true, false, true≢false, if◌then◌else◌, List, [], ◌∷◌, ◌++◌, Option, Some, None, Result, Ok, Err, append-nil, append_assoc, unwrap_or, refl, ap, sym, subst, ◌∙◌, arith, below_more}
-use Rattle.std.specs.Io.KnownBytes.{Consumes}
+use Rattle.std.proofs.Common.{◌≡◌, ℕ, ◌+◌, ◌<◌, ◌≤◌, Bool, true, false, true≢false, if◌then◌else◌, List, [], ◌++◌, Option, Some, None, Result, Ok, Err, append-nil, append_assoc, unwrap_or, refl, ap, sym, subst, ◌∙◌, arith, below_more}
 use Rattle.cpu8.specs.Go.{character_of}
 use Rattle.cpu8.specs.Laws.{runs_on}
 use Rattle.cpu8.specs.declared.outcomes.Stepped.{Stepped}
 use Rattle.cpu8.specs.declared.outcomes.Stepped.TheVariants.{Stopped, Interrupted, Ran, Halted, Unassigned}
-use Rattle.terminal8.specs.Keys.{Keyboard, fresh, keys_from, keys_of}
-use Rattle.terminal8.specs.KeySteps.{keyboard_after}
+use Rattle.terminal8.specs.Keys.{Keyboard, fresh}
 use Rattle.terminal8.specs.Terminal.{visible_characters, has_halted, stop_of}
-use Rattle.terminal8.specs.Run.{MayFollow, FindsKey, FindsNone, HaveEnded}
-use Rattle.terminal8.specs.KeyReads.{StrikesKeys, IsDry}
+use Rattle.terminal8.specs.Run.{MayFollow}
 use Rattle.terminal8.specs.Papers.{Passes, Holds}
-use Rattle.terminal8.specs.RunSteps.{IsNoneOnly, Misses}
+use Rattle.terminal8.specs.RunSteps.{Misses}
 use Rattle.terminal8.specs.declared.inputs.Input.{Input}
 use Rattle.terminal8.specs.declared.outcomes.TerminalFault.{TerminalFault}
 use Rattle.terminal8.specs.declared.outcomes.TerminalFault.TheVariants.{Reader, Writer}
@@ -19,14 +16,14 @@ use Rattle.terminal8.specs.declared.keyboards.Form.{Form}
 use Rattle.terminal8.specs.declared.outcomes.Ended.{Ended}
 use Rattle.terminal8.specs.declared.outcomes.TerminalEnd.{TerminalEnd}
 use Rattle.terminal8.specs.declared.outcomes.TerminalEnd.TheVariants as why
-use Rattle.terminal8.proofs.ByteLemmas.{consumes_more, consumes_none, passes-none, passes-more, passed}
-use Rattle.terminal8.proofs.KeyLemmas.{keys_more, after_more}
-use Rattle.terminal8.proofs.LookLemmas.{finds-none, finds-more, finds-found}
+use Rattle.terminal8.proofs.ByteLemmas.{consumes_none, passes-none, passes-more, passed}
+use Rattle.terminal8.proofs.LookLemmas.{finds-none}
+use Rattle.terminal8.proofs.RunLemmas.{IsTaken, halt-keys, limit-keys, may-join, no-keys, none-empty, stop-keys, taken-more}
 use Rattle.terminal8.proofs.TerminalLemmas.{shown-more}
 use Rattle.terminal8e.specs.Acts.{Acts}
 use Rattle.terminal8e.specs.AnyTerminal.{Terminal, new_terminal, after_step, next, later, last_did, characters_of, starves, GoesOn, Ends}
-use Rattle.terminal8e.specs.AnyRun.{HasMadeSteps, IsRunOf, IsCut, WritesPrinted, RunsProgram}
-use Rattle.terminal8e.specs.AnySteps.{Attends, Prints, RunsInto}
+use Rattle.terminal8e.specs.AnyRun.{HasMadeSteps, IsRunOf, IsCut, Prints, WritesPrinted, RunsProgram}
+use Rattle.terminal8e.specs.AnySteps.{Attends, RunsInto}
 use Rattle.terminal8e.proofs.TerminalLemmas.{later-none, later-next, did-none, did-next, printed-none, printed-next}
 
 -- ## How far a run has come
@@ -40,15 +37,6 @@ pub record IsAt {S : Type 0} (acts : Acts S) (old : S) (looks : List (Option ℕ
 abbrev pub RunsOn : {S : Type 0} → Acts S → S → List (Option ℕ) → Bool → ℕ → Type 0
 RunsOn {S} acts old looks over steps = (more : List (Option ℕ)) → MayFollow over more → runs_on (last_did acts steps (new_terminal old (looks ++ more))) ≡ true
 
--- These looks found the keys of bytes that the reader gave.
-pub record IsTaken (form : Form) (input : Input) (k : Keyboard) (ahead : List ℕ) (over : Bool) (r r' : Option (List ℕ)) (looks : List (Option ℕ)) : Type 0 where
-  pub bytes : List ℕ
-  pub taken : Consumes r r' (bytes ++ ahead)
-  pub keyboard : k ≡ keyboard_after (fresh form) bytes
-  pub finds : FindsKey input looks (keys_of form bytes)
-  pub none_only : (before after : List (Option ℕ)) → before ++ None ∷ after ≡ looks → FindsNone form r before
-  pub at_end : over ≡ true → HaveEnded input ahead r'
-
 -- All that: the run goes on after so many steps.
 pub record IsRunning {S : Type 0} (acts : Acts S) (form : Form) (input : Input) (old new : S) (k : Keyboard) (ahead : List ℕ) (over : Bool) (since : ℕ)
     (r r' w w' : Option (List ℕ)) (paper : List ℕ) (steps : ℕ) : Type 0 where
@@ -61,24 +49,6 @@ pub record IsRunning {S : Type 0} (acts : Acts S) (form : Form) (input : Input) 
 abbrev is-some : {T : Type 0} → Option T → Bool
 is-some None = false
 is-some (Some x) = true
-
-none-empty : (before after : List (Option ℕ)) → before ++ None ∷ after ≡ [] → ⊥
-none-empty [] after is = cc
-none-empty (look ∷ before) after is = cc
-
--- a look that found none is the last one, or one before that
-none-split : (looks before after : List (Option ℕ)) (look : Option ℕ) → before ++ None ∷ after ≡ looks ++ look ∷ []
-    → ((before ≡ looks) × (look ≡ None)) ⊎ ((rest : List (Option ℕ)) × (before ++ None ∷ rest ≡ looks))
-none-split [] [] after look is = let e : look ≡ None = cc in inl (refl, e)
-none-split [] (b ∷ before) after look is = let e : before ++ None ∷ after ≡ [] = cc in absurd (none-empty before after e)
-none-split (l ∷ looks) [] after look is = let e : l ≡ None = cc in inr (looks, ap (λ x. x ∷ looks) (sym e))
-none-split (l ∷ looks) (b ∷ before) after look is =
-    let e : before ++ None ∷ after ≡ looks ++ look ∷ [] = cc in
-    let f : b ≡ l = cc in
-    elim (none-split looks before after look e) [
-      | inl h ↦ inl (ap (λ x. b ∷ x) h.0 ∙ ap (λ x. x ∷ looks) f, h.1)
-      | inr h ↦ inr (h.0, ap (λ x. b ∷ x) h.1 ∙ ap (λ x. x ∷ looks) f)
-    ]
 
 pub begun : {S : Type 0} (acts : Acts S) (form : Form) (input : Input) (s : S) (r w : Option (List ℕ)) → acts.is_running s ≡ true
     → IsRunning acts form input s s (fresh form) [] false 0 r r w w [] 0
@@ -105,73 +75,6 @@ begun {S} acts form input s r w running = record {
 -- more looks were made
 joined : {S : Type 0} (acts : Acts S) (old : S) (looks found more : List (Option ℕ)) → new_terminal old ((looks ++ found) ++ more) ≡ new_terminal old (looks ++ (found ++ more))
 joined {S} acts old looks found more = ap (λ l. new_terminal old l) (append_assoc looks found more)
-
-may-join : (over over' : Bool) (found more : List (Option ℕ)) → (over ≡ true → found ≡ []) → (over ≡ true → over' ≡ true) → MayFollow over' more
-    → MayFollow over (found ++ more)
-may-join over over' found more stays goes may is = ap (λ l. l ++ more) (stays is) ∙ may (goes is)
-
--- the keys of more bytes
-keys-sum : (form : Form) (input : Input) (k k' : Keyboard) (a a' : List ℕ) (over : Bool) (r r' r'' : Option (List ℕ)) (looks : List (Option ℕ)) (keys : List ℕ)
-    → (i : IsTaken form input k a over r r' looks) → (s : StrikesKeys k k' a a' r' r'' keys) → keys_of form i.bytes ++ keys ≡ keys_of form (i.bytes ++ s.bytes)
-keys-sum form input k k' a a' over r r' r'' looks keys i s =
-    ap (λ ks. keys_of form i.bytes ++ ks) (sym s.keys_are ∙ ap (λ k. keys_from k s.bytes) i.keyboard) ∙ sym (keys_more (fresh form) i.bytes s.bytes)
-
-taken-all : (form : Form) (input : Input) (k k' : Keyboard) (a a' : List ℕ) (over : Bool) (r r' r'' : Option (List ℕ)) (looks : List (Option ℕ)) (keys : List ℕ)
-    → (i : IsTaken form input k a over r r' looks) → (s : StrikesKeys k k' a a' r' r'' keys) → Consumes r r'' ((i.bytes ++ s.bytes) ++ a')
-taken-all form input k k' a a' over r r' r'' looks keys i s =
-    subst (λ bs. Consumes r r'' bs)
-    (append_assoc i.bytes a s.strikes.read ∙ ap (λ l. i.bytes ++ l) s.strikes.in_order ∙ sym (append_assoc i.bytes s.bytes a'))
-    (consumes_more r r' r'' (i.bytes ++ a) s.strikes.read i.taken s.strikes.taken)
-
--- a look after these found none
-finds-here : (form : Form) (input : Input) (k k' : Keyboard) (a a' : List ℕ) (over : Bool) (r r' r'' : Option (List ℕ)) (looks : List (Option ℕ)) (keys : List ℕ)
-    → IsTaken form input k a over r r' looks → StrikesKeys k k' a a' r' r'' keys → keys ≡ [] → IsDry a' r'' → FindsNone form r looks
-finds-here form input k k' a a' over r r' r'' looks keys i s none dry = record {
-  bytes = i.bytes ++ s.bytes;
-  left = r'';
-  taken =
-      subst (λ bs. Consumes r r'' bs) (ap (λ l. (i.bytes ++ s.bytes) ++ l) dry.0 ∙ append-nil (i.bytes ++ s.bytes))
-      (taken-all form input k k' a a' over r r' r'' looks keys i s);
-  struck =
-      finds-found input looks (keys_of form i.bytes) i.finds
-      ∙ sym (append-nil (keys_of form i.bytes))
-      ∙ ap (λ ks. keys_of form i.bytes ++ ks) (sym none)
-      ∙ keys-sum form input k k' a a' over r r' r'' looks keys i s;
-  at_end = dry.1;
-}
-
-key-not : (key : ℕ) → Some key ≡ None → ⊥
-key-not key is = true≢false (ap (λ o. is-some o) is)
-
-none-next : (form : Form) (input : Input) (k k' : Keyboard) (a a' : List ℕ) (over : Bool) (r r' r'' : Option (List ℕ)) (looks found : List (Option ℕ)) (keys : List ℕ)
-    → IsTaken form input k a over r r' looks → StrikesKeys k k' a a' r' r'' keys → IsNoneOnly found keys a' r''
-    → (before after : List (Option ℕ)) → before ++ None ∷ after ≡ looks ++ found → FindsNone form r before
-none-next form input k k' a a' over r r' r'' looks [] keys i s n before after is = i.none_only before after (is ∙ append-nil looks)
-none-next form input k k' a a' over r r' r'' looks (Some key ∷ more) keys i s n before after is =
-    elim (none-split looks before after (Some key) (is ∙ ap (λ l. looks ++ Some key ∷ l) n)) [
-      | inl h ↦ absurd (key-not key h.1)
-      | inr h ↦ i.none_only before h.0 h.1
-    ]
-none-next form input k k' a a' over r r' r'' looks (None ∷ more) keys i s n before after is =
-    elim (none-split looks before after None (is ∙ ap (λ l. looks ++ None ∷ l) n.0)) [
-      | inl h ↦ subst (λ l. FindsNone form r l) (sym h.0) (finds-here form input k k' a a' over r r' r'' looks keys i s n.1 n.2)
-      | inr h ↦ i.none_only before h.0 h.1
-    ]
-
--- bytes were struck that give these keys, which looks found
-taken-more : (form : Form) (input : Input) (k k' : Keyboard) (a a' : List ℕ) (over over' : Bool) (r r' r'' : Option (List ℕ)) (looks found : List (Option ℕ)) (keys : List ℕ)
-    → IsTaken form input k a over r r' looks → StrikesKeys k k' a a' r' r'' keys → FindsKey input found keys → IsNoneOnly found keys a' r''
-    → (over' ≡ true → HaveEnded input a' r'') → IsTaken form input k' a' over' r r'' (looks ++ found)
-taken-more form input k k' a a' over over' r r' r'' looks found keys i s finds none end = record {
-  bytes = i.bytes ++ s.bytes;
-  taken = taken-all form input k k' a a' over r r' r'' looks keys i s;
-  keyboard = s.keyboard ∙ ap (λ k. keyboard_after k s.bytes) i.keyboard ∙ sym (after_more (fresh form) i.bytes s.bytes);
-  finds =
-      subst (λ ks. FindsKey input (looks ++ found) ks) (keys-sum form input k k' a a' over r r' r'' looks keys i s)
-      (finds-more input looks found (keys_of form i.bytes) keys i.finds finds);
-  none_only = none-next form input k k' a a' over r r' r'' looks found keys i s none;
-  at_end = end;
-}
 
 taken-next : {S : Type 0} (acts : Acts S) (form : Form) (input : Input) (k k' : Keyboard) (a a' : List ℕ) (over over' : Bool) (s s' : S) (since since' : ℕ) (r r' r'' : Option (List ℕ)) (looks : List (Option ℕ)) (starved : Bool)
     → IsTaken form input k a over r r' looks → (at : Attends acts input k k' a a' over over' s s' since since' r' r'' starved)
@@ -258,32 +161,6 @@ ends-by {S} acts t n steps Stopped w last is = subst (λ x. Ends acts t n steps 
 ends-by {S} acts t n steps (Unassigned word) w last is = subst (λ x. Ends acts t n steps x) (why-is why.Unassigned w is) (word, last)
 ends-by {S} acts t n steps Interrupted w last is = absurd (none-some w (sym is))
 ends-by {S} acts t n steps (Ran printed) w last is = absurd (none-some w (sym is))
-
-is-keys : TerminalEnd → Bool
-is-keys why.Halt = false
-is-keys why.Unassigned = false
-is-keys why.Keys = true
-is-keys why.Limit = false
-
-no-keys : (y : TerminalEnd) → is-keys y ≡ false → y ≡ why.Keys → ⊥
-unfolding is-keys
-no-keys y other is = true≢false (ap (λ x. is-keys x) (sym is) ∙ other)
-
-stop-keys : (did : Stepped) (y : TerminalEnd) → stop_of did ≡ Some y → is-keys y ≡ false
-unfolding is-keys
-stop-keys Halted y is = ap (λ x. is-keys x) (sym (why-is why.Halt y is))
-stop-keys Stopped y is = ap (λ x. is-keys x) (sym (why-is why.Halt y is))
-stop-keys (Unassigned word) y is = ap (λ x. is-keys x) (sym (why-is why.Unassigned y is))
-stop-keys Interrupted y is = absurd (none-some y (sym is))
-stop-keys (Ran printed) y is = absurd (none-some y (sym is))
-
-halt-keys : is-keys why.Halt ≡ false
-unfolding is-keys
-halt-keys = refl
-
-limit-keys : is-keys why.Limit ≡ false
-unfolding is-keys
-limit-keys = refl
 
 -- ## A run that goes on
 

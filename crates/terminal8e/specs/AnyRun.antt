@@ -1,7 +1,8 @@
 -- A run of an 8/E whose keys a reader gives, and whose printed characters a writer gets (this project's profile).
-use Rattle.std.specs.Prelude.{◌≡◌, ℕ, ◌<◌, ◌≤◌, Bool, true, List, ◌∷◌, ◌++◌, Option, None, Result, Ok, Err}
+use Rattle.std.specs.Prelude.{◌≡◌, ℕ, ◌<◌, ◌≤◌, Bool, true, List, [], ◌∷◌, ◌++◌, Option, None, Result, Ok, Err}
 use Rattle.std.specs.Io.KnownBytes.{Consumes, Appends}
 use Rattle.terminal8.specs.Keys.{keys_of}
+use Rattle.terminal8.specs.Papers.{Passes}
 use Rattle.terminal8.specs.Terminal.{visible_characters}
 use Rattle.terminal8.specs.Run.{MayFollow, FindsKey, FindsNone, HaveEnded}
 use Rattle.terminal8.specs.declared.inputs.Input.{Input}
@@ -46,6 +47,11 @@ pub record IsCut {S : Type 0} (acts : Acts S) (form : Form) (input : Input) (n :
 abbrev pub WritesPrinted : {S : Type 0} → Acts S → S → List (Option ℕ) → Bool → Option (List ℕ) → Option (List ℕ) → ℕ → Type 0
 WritesPrinted {S} acts s looks is_over writer writer' steps =
     (more : List (Option ℕ)) → MayFollow is_over more → Appends writer writer' (visible_characters (characters_of acts steps (new_terminal s (looks ++ more))))
+
+-- what so many steps printed went to the writer, and the rest is on the paper
+abbrev pub Prints : {S : Type 0} → Acts S → S → List (Option ℕ) → Bool → Option (List ℕ) → Option (List ℕ) → List ℕ → ℕ → Type 0
+Prints {S} acts s looks is_over writer writer' paper steps =
+    (more : List (Option ℕ)) → MayFollow is_over more → Passes writer writer' [] paper (visible_characters (characters_of acts steps (new_terminal s (looks ++ more))))
 
 -- What a run of at most n steps answers. Where the reader fails the writer got what was printed so far.
 abbrev pub RunsProgram : {S : Type 0} → Acts S → Form → Input → ℕ → S → S → Option (List ℕ) → Option (List ℕ) → Option (List ℕ) → Option (List ℕ) → Result Ended TerminalFault → Type 0

@@ -1,10 +1,9 @@
 -- The steps of a run, for private clauses.
 use Rattle.std.specs.Prelude.{◌≡◌, ℕ, ◌≤◌, Bool, true, List, [], ◌++◌, Option, Result, Ok, Err}
 use Rattle.terminal8.specs.Keys.{Keyboard}
-use Rattle.terminal8.specs.Terminal.{is_none_left, visible_characters}
+use Rattle.terminal8.specs.Terminal.{is_none_left}
 use Rattle.terminal8.specs.Run.{MayFollow, FindsKey, HaveEnded}
 use Rattle.terminal8.specs.KeyReads.{StrikesKeys}
-use Rattle.terminal8.specs.Papers.{Passes}
 use Rattle.terminal8.specs.RunSteps.{IsNoneOnly}
 use Rattle.terminal8.specs.declared.inputs.Input.{Input}
 use Rattle.terminal8.specs.declared.keyboards.Form.{Form}
@@ -12,8 +11,8 @@ use Rattle.terminal8.specs.declared.outcomes.Ended.{Ended}
 use Rattle.terminal8.specs.declared.outcomes.TerminalFault.{TerminalFault}
 use Rattle.terminal8.specs.declared.outcomes.TerminalFault.TheVariants.{Reader, Writer}
 use Rattle.terminal8e.specs.Acts.{Acts}
-use Rattle.terminal8e.specs.AnyTerminal.{new_terminal, after_look, after_attention, characters_of, starves}
-use Rattle.terminal8e.specs.AnyRun.{IsCut, IsRunOf}
+use Rattle.terminal8e.specs.AnyTerminal.{new_terminal, after_look, after_attention, starves}
+use Rattle.terminal8e.specs.AnyRun.{IsCut, IsRunOf, Prints}
 
 -- ## The operator
 
@@ -49,11 +48,6 @@ pub record Attends {S : Type 0} (acts : Acts S) (input : Input) (k k' : Keyboard
   pub idle : starved ≡ true → (s' ≡ s) × (found ≡ [])
 
 -- ## The run
-
--- what so many steps printed went to the writer, and the rest is on the paper
-abbrev pub Prints : {S : Type 0} → Acts S → S → List (Option ℕ) → Bool → Option (List ℕ) → Option (List ℕ) → List ℕ → ℕ → Type 0
-Prints {S} acts s looks is_over writer writer' paper steps =
-    (more : List (Option ℕ)) → MayFollow is_over more → Passes writer writer' [] paper (visible_characters (characters_of acts steps (new_terminal s (looks ++ more))))
 
 -- the answer of a run whose last printed characters may still be on the paper
 abbrev pub RunsInto : {S : Type 0} → Acts S → Form → Input → ℕ → S → S → Option (List ℕ) → Option (List ℕ) → Option (List ℕ) → Option (List ℕ) → List ℕ → Result Ended TerminalFault → Type 0

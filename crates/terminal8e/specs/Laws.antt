@@ -19,10 +19,6 @@ after (suc k) s = (printing_step (after k s)).0
 
 -- ## Whole runs
 
--- a terminal at which these keys are struck, one at each look
-abbrev pub terminal_with_keys : State8e → List ℕ → Terminal
-terminal_with_keys s keys = any.terminal_with_keys s keys
-
 -- a terminal at which the keys of these bytes are struck
 abbrev pub terminal_of : Form → State8e → List ℕ → Terminal
 terminal_of form s bytes = any.terminal_of form s bytes

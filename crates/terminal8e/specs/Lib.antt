@@ -4,7 +4,8 @@ pub mod AnyTerminal
 pub mod AnyRun
 pub mod AnySteps
 pub mod AnyLaws
+pub mod Parts
+pub mod PartSteps
 pub mod Terminal
-pub mod TerminalSteps
 pub mod Run
 pub mod Laws

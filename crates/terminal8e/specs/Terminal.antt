@@ -1,7 +1,6 @@
 -- An 8/E at a terminal (this project's profile). An operator strikes a key only where the program waits or looks for one, and a quick
 -- printer ends its character before each step. `AnyTerminal` says it of every machine.
-use Rattle.std.specs.Prelude.{ℕ, Bool, List}
-use Rattle.cpu8.specs.declared.outcomes.Stepped.{Stepped}
+use Rattle.std.specs.Prelude.{ℕ, List}
 use Rattle.cpu8e.specs.State.{State8e, key_struck}
 use Rattle.cpu8e.specs.Runs.{printing_step}
 use Rattle.terminal8.specs.declared.outcomes.TerminalEnd.{TerminalEnd}
@@ -23,26 +22,12 @@ terminal_acts = record {
 abbrev pub Terminal : Type 0
 Terminal = any.Terminal State8e
 
-abbrev pub after_step : Terminal → State8e × Stepped
-after_step t = any.after_step terminal_acts t
-
-abbrev pub next : Terminal → Terminal
-next t = any.next terminal_acts t
-
 -- the terminal after so many steps, and what they print
 abbrev pub later : ℕ → Terminal → Terminal
 later k t = any.later terminal_acts k t
 
 abbrev pub characters_of : ℕ → Terminal → List ℕ
 characters_of k t = any.characters_of terminal_acts k t
-
--- the keys have ended, and the program asks for one and does nothing but wait for it
-abbrev pub starves : Terminal → Bool
-starves t = any.starves terminal_acts t
-
--- after so many steps the run goes on
-abbrev pub GoesOn : Terminal → ℕ → Type 0
-GoesOn t k = any.GoesOn terminal_acts t k
 
 -- a run of at most n steps ends at the first end that comes
 abbrev pub IsRun : Terminal → ℕ → ℕ → TerminalEnd → Type 0

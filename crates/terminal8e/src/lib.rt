@@ -1,5 +1,5 @@
 //! An 8/E at a terminal. The bytes of a reader are struck as keys, each where the program waits or looks for one, and a writer gets what
-//! is printed. Or the keys are known, and steps are made one by one.
+//! is printed.
 //!
 //! Bytes, keys and ends are those of the 8/I's terminal. Nothing here takes memory.
 #![tactic(auto)]
@@ -11,10 +11,10 @@ mod machines;
 mod operators;
 mod processors;
 mod runs;
-mod terminals;
+mod sittings;
 
 pub use asking::{asks_for_key, waits_for_key};
 pub use machines::TerminalMachine;
 pub use processors::run;
 pub use runs::run_machine;
-pub use terminals::Terminal;
+pub use sittings::Sitting;

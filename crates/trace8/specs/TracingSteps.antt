@@ -12,11 +12,14 @@ abbrev pub HandsOn : List ℕ → List ℕ → Option (List ℕ) → Option (Lis
 HandsOn lines lines' w w' = ((lines' ≡ lines) × Appends w w' []) ⊎ ((lines' ≡ []) × Appends w w' lines)
 
 -- Of the lines of so many steps a writer got the first, and the others wait.
-pub record AreLines (tagged : ℕ → Bool) (t : Terminal) (w w' : Option (List ℕ)) (lines : List ℕ) (steps : ℕ) : Type 0 where
+pub record AreLinesOf (lines_of : ℕ → List ℕ) (w w' : Option (List ℕ)) (lines : List ℕ) (steps : ℕ) : Type 0 where
   pub written : ℕ
   pub first : written ≤ steps
-  pub handed : Appends w w' (trace_lines tagged written t)
-  pub in_order : trace_lines tagged written t ++ lines ≡ trace_lines tagged steps t
+  pub handed : Appends w w' (lines_of written)
+  pub in_order : lines_of written ++ lines ≡ lines_of steps
+
+abbrev pub AreLines : (ℕ → Bool) → Terminal → Option (List ℕ) → Option (List ℕ) → List ℕ → ℕ → Type 0
+AreLines tagged t w w' lines steps = AreLinesOf (λ k. trace_lines tagged k t) w w' lines steps
 
 -- a run was made, whose last lines may wait
 pub record IsTracedInto (tagged : ℕ → Bool) (n : ℕ) (t t' : Terminal) (w w' : Option (List ℕ)) (lines : List ℕ) (ended : Ended) : Type 0 where

@@ -1,20 +1,21 @@
--- A step of the 8/E changes the word of no cell but those that it is told to change.
-use Rattle.std.proofs.Common.{◌≡◌, ◌≢◌, inl, ℕ, ◌/◌, ◌%◌, nat_eq, ◌&&◌, if◌then◌else◌, Option, Some, None, List, [], ◌∷◌, slice_index, refl, ap, sym, subst, ◌∙◌}
-use Rattle.tty8.specs.Teletype.{TeletypeState, with_character_ended, with_key}
+-- The rest of a step of the 8/E, after its beginning, changes the word of no cell but those that it is told to change.
+use Rattle.std.proofs.Common.{◌≡◌, ◌≢◌, inl, ℕ, ◌/◌, ◌%◌, nat_eq, ◌&&◌, not, slice_index, refl, ap, sym, subst}
 use Rattle.cpu8.specs.State.{State}
 use Rattle.cpu8.specs.Decoding.{pulses_of, field_of, is_group_1, is_group_2}
 use Rattle.cpu8.specs.Operate.{is_group1_unassigned}
 use Rattle.cpu8.specs.declared.outcomes.Stepped.{Stepped}
-use Rattle.cpu8e.specs.State.{State8e, printer_done, grants_interrupt}
+use Rattle.cpu8e.specs.State.{State8e, grants_interrupt}
 use Rattle.cpu8e.specs.Console.{is_console_of_8i, keyboard_row, printer_row}
 use Rattle.cpu8e.specs.Control.{control_row, is_control_of_8i}
 use Rattle.cpu8e.specs.Fields.{fields_row, read_row}
 use Rattle.cpu8e.specs.Operate.{is_privileged, operate_row}
-use Rattle.cpu8e.specs.Step.{after_instruction, device_row, is_jump, is_reference, is_transfer, next_word, step, transfer_row}
+use Rattle.cpu8e.specs.Step.{after_instruction, device_row, is_jump, is_reference, is_transfer, next_word, transfer_row}
 use Rattle.flow8.specs.Flow.{IsAmong}
-use Rattle.terminal8e.specs.Asks.{asks_for_key}
-use Rattle.terminal8e.specs.Terminal.{Terminal, after_step}
-use Rattle.terminal8e.specs.TerminalSteps.{after_attention, after_look}
+use Rattle.pdp8e.specs.DeviceInstructions.{is_device_word}
+use Rattle.pdp8e.specs.State.{Pdp8e}
+use Rattle.pdp8e.specs.Step.{after_beginning, rest_of_step, is_disk_word, step}
+use Rattle.pdp8e.specs.Runs.{with_printer_done}
+use Rattle.pdp8e.specs.Terminal.{Terminal, after_attention, after_step, at_step}
 use Rattle.trace8.specs.Stores.{changing_cells}
 use Rattle.trace8.proofs.ChangeLemmas as pdp8i
 use Rattle.trace8.proofs.ChangeLemmas.{changed_at}
@@ -90,49 +91,25 @@ executed_told s w cell =
 
 -- ## Steps
 
-step_told : (s : State8e) (cell : ℕ) → IsTold s (next_word s) cell (step s)
-unfolding step
-step_told s cell =
-    either (IsTold s (next_word s) cell) s.base.running _ _
-    (either (IsTold s (next_word s) cell) (grants_interrupt s) _ _
-    (λ changed. inl (changed_at s.base.core 0 s.base.pc cell changed)) (executed_told s (next_word s) cell))
+-- what is told of the rest of a step that left this
+abbrev IsToldBy : Pdp8e → ℕ → Pdp8e × Stepped → Type 0
+IsToldBy m cell r = IsTold m.processor (next_word m.processor) cell (r.0.processor, r.1)
+
+finished_told : (m : Pdp8e) (cell : ℕ) → IsToldBy m cell (rest_of_step m)
+finished_told m cell =
+    either (IsToldBy m cell) m.processor.base.running _ _
+    (either (IsToldBy m cell) (grants_interrupt m.processor) _ _
+    (λ changed. inl (changed_at m.processor.base.core 0 m.processor.base.pc cell changed))
+    (either (IsToldBy m cell) (is_disk_word (next_word m.processor) && not m.processor.user_flag) _ _
+    (λ changed. absurd (changed refl))
+    (either (IsToldBy m cell) (is_device_word (next_word m.processor) && not m.processor.user_flag) _ _
+    (λ changed. absurd (changed refl)) (executed_told m.processor (next_word m.processor) cell))))
     (λ changed. absurd (changed refl))
 
 -- ## At a terminal
 
--- the same, but for the console
-abbrev with_teletype : State8e → TeletypeState → State8e
-with_teletype s teletype = record s { base = pdp8i.with_teletype s.base teletype }
-
--- a machine differs from another at most in its console
-abbrev OnlyTeletype : State8e → State8e → Type 0
-OnlyTeletype s now = (x : TeletypeState) × (now ≡ with_teletype s x)
-
-looked_keeps : (s : State8e) (looks : List (Option ℕ)) → OnlyTeletype s (after_look s looks).machine
-looked_keeps s [] = (s.base.teletype, refl)
-looked_keeps s (None ∷ looks) = (s.base.teletype, refl)
-looked_keeps s (Some key ∷ looks) = (with_key s.base.teletype key, refl)
-
-attended_keeps : (t : Terminal) → OnlyTeletype t.machine (after_attention t).machine
-attended_keeps t =
-    either (λ (u : Terminal). OnlyTeletype t.machine u.machine) (asks_for_key t.since t.machine) _ _ (looked_keeps t.machine t.looks) (t.machine.base.teletype, refl)
-
-finished_keeps : (s now : State8e) → OnlyTeletype s now → OnlyTeletype s (if now.base.teletype.busy then printer_done now else now)
-finished_keeps s now only =
-    either (λ (u : State8e). OnlyTeletype s u) now.base.teletype.busy _ _ (with_character_ended now.base.teletype, ap printer_done only.1 ∙ done) only
-  where
-    done : printer_done (with_teletype s only.0) ≡ with_teletype s (with_character_ended now.base.teletype)
-    done = ap (λ (u : State8e). with_teletype s (with_character_ended u.base.teletype)) (sym only.1)
-
-only_told : (s now : State8e) (cell : ℕ) → OnlyTeletype s now → slice_index (step now).0.base.core cell ≢ slice_index s.base.core cell
-    → IsAmong cell (changing_cells s.base (next_word s) (step now).1)
-only_told s now cell only changed =
-    let told : IsAmong cell (changing_cells now.base (next_word now) (step now).1) =
-    step_told now cell (λ e. changed (e ∙ ap (λ (u : State8e). slice_index u.base.core cell) only.1)) in
-    subst (λ cells. IsAmong cell cells)
-    (ap (λ (u : State8e). changing_cells u.base (next_word u) (step now).1) only.1 ∙ pdp8i.same_cells s.base only.0 (next_word s) (step now).1)
-    told
-
-pub changes_told : (t : Terminal) (cell : ℕ) → slice_index (after_step t).0.base.core cell ≢ slice_index t.machine.base.core cell
-    → IsAmong cell (changing_cells t.machine.base (next_word t.machine) (after_step t).1)
-changes_told t cell changed = only_told t.machine _ cell (finished_keeps t.machine (after_attention t).machine (attended_keeps t)) changed
+pub changes_told : ((m : Pdp8e) → step m ≡ rest_of_step (after_beginning m)) → (t : Terminal) (cell : ℕ)
+    → slice_index (after_step t).0.processor.base.core cell ≢ slice_index (at_step t).processor.base.core cell
+    → IsAmong cell (changing_cells (at_step t).processor.base (next_word (at_step t).processor) (after_step t).1)
+changes_told parts t cell =
+    subst (λ (r : Pdp8e × Stepped). IsToldBy (at_step t) cell r) (sym (parts (with_printer_done (after_attention t).machine))) (finished_told (at_step t) cell)

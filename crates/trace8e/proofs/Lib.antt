@@ -3,3 +3,4 @@ pub mod LineLemmas
 pub mod RunLemmas
 pub mod CountLemmas
 pub mod ProfileRunLemmas
+pub mod PaperLemmas

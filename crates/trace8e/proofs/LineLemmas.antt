@@ -7,11 +7,15 @@ use Rattle.cpu8e.specs.State.{State8e}
 use Rattle.cpu8.specs.declared.outcomes.Stepped.{Stepped}
 use Rattle.cpu8.specs.declared.outcomes.Stepped.TheVariants.{Stopped, Interrupted, Ran, Halted, Unassigned}
 use Rattle.tape_source.specs.Lines.{with_lead}
-use Rattle.terminal8e.specs.Terminal.{Terminal, later, next, after_step}
+use Rattle.rk8e.specs.declared.moves.Moved.{Moved}
+use Rattle.pdp8e.specs.State.{Pdp8e}
+use Rattle.pdp8e.specs.Step.{after_beginning, rest_of_step, step}
+use Rattle.pdp8e.specs.Runs.{with_printer_done}
+use Rattle.pdp8e.specs.Terminal.{Terminal, later, next, after_attention, after_step, at_step, in_step, move_at, out_of_step}
 use Rattle.trace8.specs.Stores.{changing_cells}
 use Rattle.trace8.specs.Trace.{change_text, changes_text, printed_text}
 use Rattle.trace8e.specs.Names.{instruction_of_8e}
-use Rattle.trace8e.specs.Trace.{instruction_text, next_line, registers_text, step_line, step_text, trace_lines}
+use Rattle.trace8e.specs.Trace.{instruction_text, moved_text, next_line, registers_text, step_line, step_text, trace_lines}
 use Rattle.trace8.specs.StoresSteps.{change_line, word_at}
 use Rattle.trace8e.specs.StoresSteps.{IsBefore, change_lines, instruction_line, trace_line, step_report}
 use Rattle.trace8e.specs.declared.stores.Before.{Before}
@@ -57,20 +61,38 @@ told-line tagged s b did s' is =
     ap (λ l. l ++ registers_text s' ++ change_lines b did s'.base.core ++ printed_text did ++ 10 ∷ []) (told-step tagged s.base b did is)
     ∙ ap (λ l. step_text tagged s.base did ++ registers_text s' ++ l ++ printed_text did ++ 10 ∷ []) (told-changes s.base b did s'.base.core is)
 
-pub told-next : (tagged : ℕ → Bool) (t : Terminal) (b : Before) (did : Stepped) (s' : State8e) → IsBefore t.machine.base b
-    → did ≡ (after_step t).1 → s' ≡ (after_step t).0 → trace_line tagged b did s' ≡ next_line tagged t
+-- ## A step, by its parts
+
+-- the rest of a step is that of the whole
+pub rest-of : ((m : Pdp8e) → step m ≡ rest_of_step (after_beginning m)) → (t : Terminal) → rest_of_step (at_step t) ≡ after_step t
+rest-of parts t = sym (parts (with_printer_done (after_attention t).machine))
+
+pub next-of : ((m : Pdp8e) → step m ≡ rest_of_step (after_beginning m)) → (t : Terminal) → out_of_step (in_step t) ≡ next t
+next-of parts t = ap (λ (r : Pdp8e × Stepped). let u : Terminal = record (in_step t) { machine = r.0 } in u) (rest-of parts t)
+
+told-next : (tagged : ℕ → Bool) (t : Terminal) (b : Before) (did : Stepped) (s' : State8e) → IsBefore (at_step t).processor.base b
+    → did ≡ (after_step t).1 → s' ≡ (after_step t).0.processor → moved_text (move_at t) ++ trace_line tagged b did s' ≡ next_line tagged t
 unfolding next_line
 told-next tagged t b did s' is did_is machine_is =
-    told-line tagged t.machine b did s' is
-    ∙ ap (λ d. step_line tagged t.machine d s') did_is
-    ∙ ap (λ x. step_line tagged t.machine (after_step t).1 x) machine_is
+    ap (λ l. moved_text (move_at t) ++ l)
+    (told-line tagged (at_step t).processor b did s' is
+    ∙ ap (λ d. step_line tagged (at_step t).processor d s') did_is
+    ∙ ap (λ x. step_line tagged (at_step t).processor (after_step t).1 x) machine_is)
 
--- the line that a step appends
-pub appended : (tagged : ℕ → Bool) (t t' : Terminal) (s s' : State8e) (b : Before) (did : Stepped) (lines lines' : List ℕ) → s ≡ t.machine → IsBefore s.base b
-    → t' ≡ next t → did ≡ (after_step t).1 → s' ≡ t'.machine → lines' ≡ lines ++ trace_line tagged b did s' → lines' ≡ lines ++ next_line tagged t
-appended tagged t t' s s' b did lines lines' at is step did_is left line =
+-- the lines that a step appends
+pub appended : ((m : Pdp8e) → step m ≡ rest_of_step (after_beginning m)) → (tagged : ℕ → Bool) (t t1 t2 : Terminal) (m m' : Pdp8e) (s s' : State8e) (b : Before) (did : Stepped) (moved : Option Moved)
+    → (lines lines1 lines' : List ℕ) → moved ≡ move_at t → t1 ≡ in_step t → m ≡ t1.machine → s ≡ m.processor → IsBefore s.base b → t2 ≡ out_of_step t1 → did ≡ (rest_of_step t1.machine).1
+    → m' ≡ t2.machine → s' ≡ m'.processor → lines1 ≡ lines ++ moved_text moved → lines' ≡ lines1 ++ trace_line tagged b did s' → lines' ≡ lines ++ next_line tagged t
+appended parts tagged t t1 t2 m m' s s' b did moved lines lines1 lines' moves begins at sees is ends done left seen first line =
+    let before : IsBefore (at_step t).processor.base b =
+    subst (λ (u : State8e). IsBefore u.base b) (sees ∙ ap (λ (x : Pdp8e). x.processor) at ∙ ap (λ (x : Terminal). x.machine.processor) begins) is in
+    let after : t2 ≡ next t = ends ∙ ap (λ (x : Terminal). out_of_step x) begins ∙ next-of parts t in
     line
-    ∙ ap (λ l. lines ++ l) (told-next tagged t b did s' (subst (λ (u : State8e). IsBefore u.base b) at is) did_is (left ∙ ap (λ (x : Terminal). x.machine) step))
+    ∙ ap (λ l. l ++ trace_line tagged b did s') (first ∙ ap (λ (x : Option Moved). lines ++ moved_text x) moves)
+    ∙ append_assoc lines (moved_text (move_at t)) (trace_line tagged b did s')
+    ∙ ap (λ l. lines ++ l)
+    (told-next tagged t b did s' before (done ∙ ap (λ (x : Terminal). (rest_of_step x.machine).1) begins ∙ ap (λ (r : Pdp8e × Stepped). r.1) (rest-of parts t))
+    (seen ∙ ap (λ (x : Pdp8e). x.processor) left ∙ ap (λ (x : Terminal). x.machine.processor) after))
 
 -- ## Lines
 

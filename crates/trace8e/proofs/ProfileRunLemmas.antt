@@ -1,23 +1,22 @@
 -- A run that counts.
-use Rattle.std.proofs.Common.{◌≡◌, ℕ, ◌+◌, ◌<◌, ◌≤◌, Bool, true, false, true≢false, if◌then◌else◌, List, [], ◌∷◌, length, Option, Some, None, is_some, unwrap_or, add-one, below_more, refl, ap, sym, subst, ◌∙◌, arith}
+use Rattle.std.proofs.Common.{◌≡◌, ℕ, ◌+◌, ◌<◌, ◌≤◌, Bool, true, false, if◌then◌else◌, List, length, Some, None, below_more, ap, sym, subst, ◌∙◌, arith}
 use Rattle.word12.specs.declared.sizes.TheConstants.{CORE}
 use Rattle.cpu8.specs.State.{next_cell}
-use Rattle.cpu8e.specs.State.{State8e}
 use Rattle.cpu8.specs.Laws.{runs_on}
 use Rattle.cpu8.specs.Fetches.{is_fetch}
 use Rattle.cpu8.specs.declared.outcomes.Stepped.{Stepped}
-use Rattle.cpu8.specs.declared.outcomes.Stepped.TheVariants.{Stopped, Interrupted, Ran, Halted, Unassigned}
-use Rattle.terminal8e.specs.Asks.{asks_for_key}
+use Rattle.cpu8.specs.declared.outcomes.Stepped.TheVariants.{Stopped, Ran}
 use Rattle.terminal8.specs.Terminal.{stop_of, has_halted}
-use Rattle.terminal8e.specs.AnyTerminal as any
-use Rattle.terminal8e.specs.Terminal.{Terminal, next, after_step, later, starves, GoesOn, IsRun}
-use Rattle.terminal8e.specs.TerminalSteps.{after_look, last_did, Ends}
+use Rattle.pdp8e.specs.Terminal.{Terminal, next, after_step, later, starves, GoesOn, IsRun}
+use Rattle.pdp8e.specs.TerminalSteps.{last_did}
 use Rattle.terminal8.specs.declared.outcomes.TerminalEnd.{TerminalEnd}
 use Rattle.terminal8.specs.declared.outcomes.TerminalEnd.TheVariants as why
 use Rattle.profile8.specs.Counts.{AreZero}
 use Rattle.trace8e.specs.Counts.{AreCounts}
 use Rattle.profile8.specs.CountSteps.{counts_with}
 use Rattle.trace8e.proofs.CountLemmas.{counts-none, counts-next}
+use Rattle.trace8e.proofs.RunLemmas.{did-next, did-none, ends-by, later-next, later-none, next-since}
+use Rattle.trace8.proofs.WaitingLemmas.{goes-by}
 
 -- A terminal has made so many steps, and the run goes on.
 pub record IsGoing (t now : Terminal) (made : ℕ) : Type 0 where
@@ -31,63 +30,9 @@ pub record IsCounting (t now : Terminal) (made : ℕ) (counts : List ℕ) : Type
   pub going : IsGoing t now made
   pub are : AreCounts made t counts
 
--- ## Steps
-
-later-none : (t : Terminal) → later 0 t ≡ t
-unfolding any.later
-later-none t = refl
-
-later-next : (k : ℕ) (t : Terminal) → later (k + 1) t ≡ next (later k t)
-unfolding any.later
-later-next k t = rw add-one refl
-
-did-none : (t : Terminal) → last_did 0 t ≡ (if t.machine.base.running then Ran None else Stopped)
-unfolding any.last_did
-did-none t = refl
-
-did-next : (k : ℕ) (t : Terminal) → last_did (k + 1) t ≡ (after_step (later k t)).1
-unfolding any.last_did
-did-next k t = rw add-one refl
-
--- ## How long ago the program asked for a key
-
-looked-since : (s : State8e) (looks : List (Option ℕ)) → (after_look s looks).since ≡ 0
-looked-since s [] = refl
-looked-since s (None ∷ looks) = refl
-looked-since s (Some key ∷ looks) = refl
-
-attended-by : (t : Terminal) (asks : Bool) → (if asks then after_look t.machine t.looks else t).since ≤ t.since
-attended-by t true = omega (arith, looked-since t.machine t.looks)
-attended-by t false = omega arith
-
-next-since : (t : Terminal) → (next t).since ≤ t.since + 1
-next-since t = omega (arith, attended-by t (asks_for_key t.since t.machine))
-
--- ## Whether a step was an end
-
-none_some : (w : TerminalEnd) → Some w ≡ None → ⊥
-none_some w is = true≢false (ap (λ o. is_some o) is)
-
-why_is : (a b : TerminalEnd) → Some a ≡ Some b → a ≡ b
-why_is a b is = ap (λ o. unwrap_or o a) is
-
-goes_by : (did : Stepped) → stop_of did ≡ None → runs_on did ≡ true
-goes_by Halted is = absurd (none_some why.Halt is)
-goes_by (Unassigned word) is = absurd (none_some why.Unassigned is)
-goes_by Stopped is = absurd (none_some why.Halt is)
-goes_by Interrupted is = refl
-goes_by (Ran printed) is = refl
-
-ends_by : (t : Terminal) (n steps : ℕ) (did : Stepped) (w : TerminalEnd) → last_did steps t ≡ did → stop_of did ≡ Some w → Ends t n steps w
-ends_by t n steps Halted w last is = subst (λ x. Ends t n steps x) (why_is why.Halt w is) (ap (λ d. has_halted d) last)
-ends_by t n steps Stopped w last is = subst (λ x. Ends t n steps x) (why_is why.Halt w is) (ap (λ d. has_halted d) last)
-ends_by t n steps (Unassigned word) w last is = subst (λ x. Ends t n steps x) (why_is why.Unassigned w is) (word, last)
-ends_by t n steps Interrupted w last is = absurd (none_some w (sym is))
-ends_by t n steps (Ran printed) w last is = absurd (none_some w (sym is))
-
 -- ## A run that goes on
 
-pub begun : (t : Terminal) (counts : List ℕ) → t.machine.base.running ≡ true → length counts ≡ CORE → AreZero counts → IsCounting t t 0 counts
+pub begun : (t : Terminal) (counts : List ℕ) → t.machine.processor.base.running ≡ true → length counts ≡ CORE → AreZero counts → IsCounting t t 0 counts
 begun t counts running size zeros = record {
   going = record {
     at = sym (later-none t);
@@ -99,12 +44,12 @@ begun t counts running size zeros = record {
 }
 
 -- what the counts are after a step
-next-counts : (t now : Terminal) (made : ℕ) (counts counts' : List ℕ) → IsCounting t now made counts → next_cell now.machine.base < CORE
-    → counts' ≡ counts_with counts (next_cell now.machine.base) (is_fetch (after_step now).1) → AreCounts (made + 1) t counts'
+next-counts : (t now : Terminal) (made : ℕ) (counts counts' : List ℕ) → IsCounting t now made counts → next_cell now.machine.processor.base < CORE
+    → counts' ≡ counts_with counts (next_cell now.machine.processor.base) (is_fetch (after_step now).1) → AreCounts (made + 1) t counts'
 next-counts t now made counts counts' i within is =
-    let inside : next_cell (later made t).machine.base < CORE = subst (λ x. next_cell x.machine.base < CORE) i.going.at within in
+    let inside : next_cell (later made t).machine.processor.base < CORE = subst (λ x. next_cell x.machine.processor.base < CORE) i.going.at within in
     subst (λ l. AreCounts (made + 1) t l)
-    (sym (is ∙ ap (λ x. counts_with counts (next_cell x.machine.base) (is_fetch (after_step x).1)) i.going.at))
+    (sym (is ∙ ap (λ x. counts_with counts (next_cell x.machine.processor.base) (is_fetch (after_step x).1)) i.going.at))
     (counts-next made t counts i.are inside)
 
 next-at : (t now new : Terminal) (made : ℕ) → IsGoing t now made → new ≡ next now → new ≡ later (made + 1) t
@@ -126,10 +71,10 @@ going_on t now new made did i fed new_is did_is runs = record {
 }
 
 pub counted_on : (t now new : Terminal) (made : ℕ) (counts counts' : List ℕ) (did : Stepped) → IsCounting t now made counts → starves now ≡ false
-    → new ≡ next now → did ≡ (after_step now).1 → next_cell now.machine.base < CORE
-    → counts' ≡ counts_with counts (next_cell now.machine.base) (is_fetch (after_step now).1) → stop_of did ≡ None → IsCounting t new (made + 1) counts'
+    → new ≡ next now → did ≡ (after_step now).1 → next_cell now.machine.processor.base < CORE
+    → counts' ≡ counts_with counts (next_cell now.machine.processor.base) (is_fetch (after_step now).1) → stop_of did ≡ None → IsCounting t new (made + 1) counts'
 counted_on t now new made counts counts' did i fed new_is did_is within counts_are goes = record {
-  going = going_on t now new made did i.going fed new_is did_is (goes_by did goes);
+  going = going_on t now new made did i.going fed new_is did_is (goes-by did goes);
   are = next-counts t now made counts counts' i within counts_are;
 }
 
@@ -141,7 +86,7 @@ pub record HasCounted (t new : Terminal) (n steps : ℕ) (w : TerminalEnd) (coun
   pub terminal : new ≡ later steps t
   pub counts_are : AreCounts steps t counts
 
-pub stopped_run : (t : Terminal) (n : ℕ) (counts : List ℕ) → t.machine.base.running ≡ false → length counts ≡ CORE → AreZero counts
+pub stopped_run : (t : Terminal) (n : ℕ) (counts : List ℕ) → t.machine.processor.base.running ≡ false → length counts ≡ CORE → AreZero counts
     → HasCounted t t n 0 why.Halt counts
 stopped_run t n counts stands size zeros = record {
   run = record {
@@ -154,13 +99,13 @@ stopped_run t n counts stands size zeros = record {
 }
 
 pub ended_run : (t now new : Terminal) (n made : ℕ) (counts counts' : List ℕ) (did : Stepped) (w : TerminalEnd) → IsCounting t now made counts → made < n
-    → starves now ≡ false → new ≡ next now → did ≡ (after_step now).1 → next_cell now.machine.base < CORE
-    → counts' ≡ counts_with counts (next_cell now.machine.base) (is_fetch (after_step now).1) → stop_of did ≡ Some w → HasCounted t new n (made + 1) w counts'
+    → starves now ≡ false → new ≡ next now → did ≡ (after_step now).1 → next_cell now.machine.processor.base < CORE
+    → counts' ≡ counts_with counts (next_cell now.machine.processor.base) (is_fetch (after_step now).1) → stop_of did ≡ Some w → HasCounted t new n (made + 1) w counts'
 ended_run t now new n made counts counts' did w i sooner fed new_is did_is within counts_are stops = record {
   run = record {
     within = omega (arith, sooner);
     goes_on = next-goes t now made i.going fed;
-    ends = ends_by t n (made + 1) did w (next-did t now made did i.going did_is) stops;
+    ends = ends-by t n (made + 1) did w (next-did t now made did i.going did_is) stops;
   };
   terminal = next-at t now new made i.going new_is;
   counts_are = next-counts t now made counts counts' i within counts_are;

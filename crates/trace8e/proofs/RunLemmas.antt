@@ -1,15 +1,15 @@
 -- A trace, as far as it has come.
-use Rattle.std.proofs.Common.{◌≡◌, inl, inr, ℕ, ◌+◌, ◌<◌, ◌≤◌, Bool, true, false, if◌then◌else◌, Option, Some, None, unwrap_or, Ok, Err, List, [], ◌∷◌, ◌++◌, append-nil, append_assoc, add-one, refl, ap, sym, subst, ◌∙◌, arith, below_more}
+use Rattle.std.proofs.Common.{◌≡◌, ℕ, ◌+◌, ◌<◌, ◌≤◌, Bool, true, false, if◌then◌else◌, Option, Some, None, Ok, Err, List, [], ◌∷◌, ◌++◌, add-one, refl, ap, sym, subst, ◌∙◌, arith, below_more}
 use Rattle.std.specs.Io.KnownBytes.{Appends}
-use Rattle.cpu8e.specs.State.{State8e}
+use Rattle.pdp8e.specs.State.{Pdp8e}
 use Rattle.cpu8.specs.Laws.{runs_on}
 use Rattle.cpu8.specs.declared.outcomes.Stepped.{Stepped}
 use Rattle.cpu8.specs.declared.outcomes.Stepped.TheVariants.{Stopped, Interrupted, Ran, Halted, Unassigned}
-use Rattle.terminal8e.specs.Asks.{asks_for_key}
+use Rattle.pdp8e.specs.Asks.{asks_for_key}
 use Rattle.terminal8.specs.Terminal.{has_halted, stop_of}
 use Rattle.terminal8e.specs.AnyTerminal as any
-use Rattle.terminal8e.specs.Terminal.{Terminal, later, next, starves, after_step, GoesOn}
-use Rattle.terminal8e.specs.TerminalSteps.{last_did, after_look, Ends}
+use Rattle.pdp8e.specs.Terminal.{Terminal, later, next, starves, after_step, GoesOn}
+use Rattle.pdp8e.specs.TerminalSteps.{last_did, after_look, Ends}
 use Rattle.terminal8.specs.declared.outcomes.Ended.{Ended}
 use Rattle.terminal8.specs.declared.outcomes.TerminalEnd.{TerminalEnd}
 use Rattle.terminal8.specs.declared.outcomes.TerminalEnd.TheVariants as why
@@ -18,77 +18,55 @@ use Rattle.trace8e.specs.Tracing.{Traces}
 use Rattle.trace8e.specs.TracingSteps.{AreLines, TracesInto}
 use Rattle.trace8.specs.TracingSteps.{HandsOn}
 use Rattle.trace8.specs.declared.faults.TraceFault.{TraceFault}
-use Rattle.trace8.specs.declared.faults.TraceFault.TheVariants.{Memory, Writer}
+use Rattle.trace8.specs.declared.faults.TraceFault.TheVariants.{Writer}
 use Rattle.trace8e.proofs.LineLemmas.{lines-next, lines-none}
+use Rattle.terminal8.proofs.ByteLemmas.{appends_more, appends_none}
+use Rattle.trace8.proofs.WaitingLemmas.{goes-by, handed-lines, more-lines, no-lines, no-memory, none-some, why-is}
 
 -- ## Steps of a terminal
 
-later-none : (t : Terminal) → later 0 t ≡ t
+pub later-none : (t : Terminal) → later 0 t ≡ t
 unfolding any.later
 later-none t = refl
 
-later-next : (k : ℕ) (t : Terminal) → later (k + 1) t ≡ next (later k t)
+pub later-next : (k : ℕ) (t : Terminal) → later (k + 1) t ≡ next (later k t)
 unfolding any.later
 later-next k t = rw add-one refl
 
-did-none : (t : Terminal) → last_did 0 t ≡ (if t.machine.base.running then Ran None else Stopped)
+pub did-none : (t : Terminal) → last_did 0 t ≡ (if t.machine.processor.base.running then Ran None else Stopped)
 unfolding any.last_did
 did-none t = refl
 
-did-next : (k : ℕ) (t : Terminal) → last_did (k + 1) t ≡ (after_step (later k t)).1
+pub did-next : (k : ℕ) (t : Terminal) → last_did (k + 1) t ≡ (after_step (later k t)).1
 unfolding any.last_did
 did-next k t = rw add-one refl
 
-looked-since : (s : State8e) (looks : List (Option ℕ)) → (after_look s looks).since ≡ 0
-looked-since s [] = refl
-looked-since s (None ∷ looks) = refl
-looked-since s (Some key ∷ looks) = refl
+looked-since : (m : Pdp8e) (looks : List (Option ℕ)) → (after_look m looks).since ≡ 0
+looked-since m [] = refl
+looked-since m (None ∷ looks) = refl
+looked-since m (Some key ∷ looks) = refl
 
 attended-since : (b : Bool) (t : Terminal) → (if b then after_look t.machine t.looks else t).since ≤ t.since
 attended-since true t = rw (looked-since t.machine t.looks) (omega arith)
 attended-since false t = omega arith
 
-next-since : (t : Terminal) → (next t).since ≤ t.since + 1
+pub next-since : (t : Terminal) → (next t).since ≤ t.since + 1
 next-since t = omega (arith, attended-since (asks_for_key t.since t.machine) t)
 
 -- ## Ends
 
-none-some : (y : TerminalEnd) → Some y ≡ None → ⊥
-none-some y h = cc
-
-goes-by : (did : Stepped) → stop_of did ≡ None → runs_on did ≡ true
-goes-by Halted h = absurd (none-some why.Halt h)
-goes-by (Unassigned word) h = absurd (none-some why.Unassigned h)
-goes-by Stopped h = absurd (none-some why.Halt h)
-goes-by Interrupted h = refl
-goes-by (Ran printed) h = refl
-
-why-is : (a b : TerminalEnd) → Some a ≡ Some b → a ≡ b
-why-is a b h = ap (λ o. unwrap_or o a) h
-
-ends-by : (t : Terminal) (n steps : ℕ) (did : Stepped) (y : TerminalEnd) → last_did steps t ≡ did → stop_of did ≡ Some y → Ends t n steps y
+pub ends-by : (t : Terminal) (n steps : ℕ) (did : Stepped) (y : TerminalEnd) → last_did steps t ≡ did → stop_of did ≡ Some y → Ends t n steps y
 ends-by t n steps Halted y last is = subst (λ x. Ends t n steps x) (why-is why.Halt y is) (ap (λ d. has_halted d) last)
 ends-by t n steps Stopped y last is = subst (λ x. Ends t n steps x) (why-is why.Halt y is) (ap (λ d. has_halted d) last)
 ends-by t n steps (Unassigned word) y last is = subst (λ x. Ends t n steps x) (why-is why.Unassigned y is) (word, last)
 ends-by t n steps Interrupted y last is = absurd (none-some y (sym is))
 ends-by t n steps (Ran printed) y last is = absurd (none-some y (sym is))
 
--- ## Writers
-
-appends-none : (known : Option (List ℕ)) → Appends known known []
-appends-none None = tt
-appends-none (Some bytes) = sym (append-nil bytes)
-
-appends-more : (old mid new : Option (List ℕ)) (xs ys : List ℕ) → Appends old mid xs → Appends mid new ys → Appends old new (xs ++ ys)
-appends-more None mid new xs ys a b = tt
-appends-more (Some o) None new xs ys a b = absurd a
-appends-more (Some o) (Some m) None xs ys a b = absurd b
-appends-more (Some o) (Some m) (Some n) xs ys a b = b ∙ ap (λ l. l ++ ys) a ∙ append_assoc o xs ys
-
-pub kept-lines : (w : Option (List ℕ)) (lines : List ℕ) → HandsOn lines lines w w
-kept-lines w lines = inl (refl, appends-none w)
-
 -- ## A trace on the way
+
+-- the lines of so many steps
+abbrev lines_by : (ℕ → Bool) → Terminal → ℕ → List ℕ
+lines_by tagged t = λ steps. trace_lines tagged steps t
 
 -- So many steps were made, and no end came before; the last of them is no end.
 pub record IsTracing (tagged : ℕ → Bool) (t t' : Terminal) (w w' : Option (List ℕ)) (lines : List ℕ) (made : ℕ) : Type 0 where
@@ -98,52 +76,13 @@ pub record IsTracing (tagged : ℕ → Bool) (t t' : Terminal) (w w' : Option (L
   pub lines_are : AreLines tagged t w w' lines made
   pub sooner : t'.since ≤ t.since + made
 
-no-lines : (tagged : ℕ → Bool) (t : Terminal) (w : Option (List ℕ)) (lines : List ℕ) → lines ≡ [] → AreLines tagged t w w lines 0
-no-lines tagged t w lines none = record {
-  written = 0;
-  first = omega arith;
-  handed = subst (λ l. Appends w w l) (sym (lines-none tagged t)) (appends-none w);
-  in_order = ap (λ l. trace_lines tagged 0 t ++ l) none ∙ append-nil (trace_lines tagged 0 t);
-}
-
-pub begun : (tagged : ℕ → Bool) (t : Terminal) (w : Option (List ℕ)) (lines : List ℕ) → lines ≡ [] → t.machine.base.running ≡ true → IsTracing tagged t t w w lines 0
+pub begun : (tagged : ℕ → Bool) (t : Terminal) (w : Option (List ℕ)) (lines : List ℕ) → lines ≡ [] → t.machine.processor.base.running ≡ true → IsTracing tagged t t w w lines 0
 begun tagged t w lines none running = record {
   terminal = sym (later-none t);
   goes_on = λ k below. absurd (omega (arith, below));
   runs = ap (λ did. runs_on did) (did-none t) ∙ ap (λ (b : Bool). runs_on (if b then Ran None else Stopped)) running;
-  lines_are = no-lines tagged t w lines none;
+  lines_are = no-lines (lines_by tagged t) w lines (lines-none tagged t) none;
   sooner = omega arith;
-}
-
--- lines were handed on, if they were many
-handed-lines : (tagged : ℕ → Bool) (t : Terminal) (w w' w'' : Option (List ℕ)) (lines lines' : List ℕ) (made : ℕ)
-    → AreLines tagged t w w' lines made → HandsOn lines lines' w' w'' → AreLines tagged t w w'' lines' made
-handed-lines tagged t w w' w'' lines lines' made are (inl kept) = record {
-  written = are.written;
-  first = are.first;
-  handed = subst (λ l. Appends w w'' l) (append-nil (trace_lines tagged are.written t))
-      (appends-more w w' w'' (trace_lines tagged are.written t) [] are.handed kept.1);
-  in_order = ap (λ l. trace_lines tagged are.written t ++ l) kept.0 ∙ are.in_order;
-}
-handed-lines tagged t w w' w'' lines lines' made are (inr handed) = record {
-  written = made;
-  first = omega arith;
-  handed = subst (λ l. Appends w w'' l) are.in_order (appends-more w w' w'' (trace_lines tagged are.written t) lines are.handed handed.1);
-  in_order = ap (λ l. trace_lines tagged made t ++ l) handed.0 ∙ append-nil (trace_lines tagged made t);
-}
-
--- the line of one step more waits
-more-lines : (tagged : ℕ → Bool) (t : Terminal) (w w' : Option (List ℕ)) (lines lines' : List ℕ) (made : ℕ)
-    → AreLines tagged t w w' lines made → lines' ≡ lines ++ next_line tagged (later made t) → AreLines tagged t w w' lines' (made + 1)
-more-lines tagged t w w' lines lines' made are is = record {
-  written = are.written;
-  first = omega (arith, are.first);
-  handed = are.handed;
-  in_order =
-      ap (λ l. trace_lines tagged are.written t ++ l) is
-      ∙ sym (append_assoc (trace_lines tagged are.written t) lines (next_line tagged (later made t)))
-      ∙ ap (λ l. l ++ next_line tagged (later made t)) are.in_order
-      ∙ sym (lines-next tagged made t);
 }
 
 -- the run goes on after these steps, and one more is made
@@ -170,14 +109,14 @@ step-traced tagged t t' t'' w w' w'' lines lines' lines'' made did i fed hands s
   terminal = next-terminal t t' t'' made i.terminal step;
   goes_on = goes-further t t' made i.terminal i.goes_on i.runs fed;
   runs = ap (λ d. runs_on d) (did-is t t' made did i.terminal done) ∙ goes-by did goes;
-  lines_are = more-lines tagged t w w'' lines' lines'' made (handed-lines tagged t w w' w'' lines lines' made i.lines_are hands)
+  lines_are = more-lines (lines_by tagged t) w w'' lines' lines'' (next_line tagged (later made t)) made (lines-next tagged made t) (handed-lines (lines_by tagged t) w w' w'' lines lines' made i.lines_are hands)
       (line ∙ ap (λ x. lines' ++ next_line tagged x) i.terminal);
   sooner = next-sooner t t' t'' made i.sooner step;
 }
 
 -- ## Its end
 
-pub stopped-trace : (tagged : ℕ → Bool) (n : ℕ) (t : Terminal) (w : Option (List ℕ)) (lines : List ℕ) → lines ≡ [] → t.machine.base.running ≡ false
+pub stopped-trace : (tagged : ℕ → Bool) (n : ℕ) (t : Terminal) (w : Option (List ℕ)) (lines : List ℕ) → lines ≡ [] → t.machine.processor.base.running ≡ false
     → TracesInto tagged n t t w w lines (Ok (record { steps = 0; why = why.Halt }))
 stopped-trace tagged n t w lines none stopped = record {
   run = record {
@@ -186,7 +125,7 @@ stopped-trace tagged n t w lines none stopped = record {
     ends = ap (λ did. has_halted did) (did-none t) ∙ ap (λ (b : Bool). has_halted (if b then Ran None else Stopped)) stopped;
   };
   terminal = sym (later-none t);
-  lines_are = no-lines tagged t w lines none;
+  lines_are = no-lines (lines_by tagged t) w lines (lines-none tagged t) none;
 }
 
 pub starved-trace : (tagged : ℕ → Bool) (n : ℕ) (t t' : Terminal) (w w' : Option (List ℕ)) (lines : List ℕ) (made : ℕ) → IsTracing tagged t t' w w' lines made
@@ -216,12 +155,9 @@ ended-trace tagged n t t' t'' w w' w'' lines lines' lines'' made did y i below f
     ends = ends-by t n (made + 1) did y (did-is t t' made did i.terminal done) is;
   };
   terminal = next-terminal t t' t'' made i.terminal step;
-  lines_are = more-lines tagged t w w'' lines' lines'' made (handed-lines tagged t w w' w'' lines lines' made i.lines_are hands)
+  lines_are = more-lines (lines_by tagged t) w w'' lines' lines'' (next_line tagged (later made t)) made (lines-next tagged made t) (handed-lines (lines_by tagged t) w w' w'' lines lines' made i.lines_are hands)
       (line ∙ ap (λ x. lines' ++ next_line tagged x) i.terminal);
 }
-
-no-memory : (fault : TraceFault) → fault ≡ Writer → fault ≡ Memory → ⊥
-no-memory fault a b = cc
 
 -- the writer failed before a step
 pub unwritten-trace : (tagged : ℕ → Bool) (n : ℕ) (t t' : Terminal) (w w' w'' : Option (List ℕ)) (lines lines' : List ℕ) (made : ℕ) (fault : TraceFault)
@@ -241,7 +177,7 @@ pub refused-trace : (tagged : ℕ → Bool) (n : ℕ) (t t' t'' : Terminal) (w w
     → IsTracing tagged t t' w w' lines made → made < n → starves t' ≡ false → HandsOn lines lines' w' w'' → t'' ≡ next t'
     → TracesInto tagged n t t'' w w'' lines'' (Err fault)
 refused-trace tagged n t t' t'' w w' w'' lines lines' lines'' made fault i below fed hands step =
-    let are = handed-lines tagged t w w' w'' lines lines' made i.lines_are hands in
+    let are = handed-lines (lines_by tagged t) w w' w'' lines lines' made i.lines_are hands in
     record {
       steps = made + 1;
       within = omega (arith, below);
@@ -255,17 +191,15 @@ refused-trace tagged n t t' t'' w w' w'' lines lines' lines'' made fault i below
 -- ## With the last lines
 
 pub no-trace : (tagged : ℕ → Bool) (n : ℕ) (t : Terminal) (w : Option (List ℕ)) (fault : TraceFault) → Traces tagged n t t w w (Err fault)
-no-trace tagged n t w fault =
-    let are = no-lines tagged t w [] refl in
-    record {
-      steps = 0;
-      within = omega arith;
-      goes_on = λ k below. absurd (omega (arith, below));
-      terminal = sym (later-none t);
-      written = 0;
-      first = omega arith;
-      lines = λ memory. subst (λ l. Appends w w l) (sym (lines-none tagged t)) (appends-none w);
-    }
+no-trace tagged n t w fault = record {
+  steps = 0;
+  within = omega arith;
+  goes_on = λ k below. absurd (omega (arith, below));
+  terminal = sym (later-none t);
+  written = 0;
+  first = omega arith;
+  lines = λ memory. subst (λ l. Appends w w l) (sym (lines-none tagged t)) (appends_none w);
+}
 
 pub written-trace : (tagged : ℕ → Bool) (n : ℕ) (t t' : Terminal) (w w' w'' : Option (List ℕ)) (lines : List ℕ) (ended : Ended)
     → TracesInto tagged n t t' w w' lines (Ok ended) → Appends w' w'' lines → Traces tagged n t t' w w'' (Ok ended)
@@ -273,7 +207,7 @@ written-trace tagged n t t' w w' w'' lines ended into last = record {
   run = into.run;
   terminal = into.terminal;
   lines = subst (λ l. Appends w w'' l) into.lines_are.in_order
-      (appends-more w w' w'' (trace_lines tagged into.lines_are.written t) lines into.lines_are.handed last);
+      (appends_more w w' w'' (trace_lines tagged into.lines_are.written t) lines into.lines_are.handed last);
 }
 
 pub cut-trace : (tagged : ℕ → Bool) (n : ℕ) (t t' : Terminal) (w w' w'' : Option (List ℕ)) (lines : List ℕ) (ended : Ended) (fault : TraceFault)

@@ -1,13 +1,13 @@
 -- How often the word of each cell was fetched on the 8/E (this project's profile).
-use Rattle.std.specs.Prelude.{◌≡◌, ℕ, zero, suc, ◌+◌, ◌<◌, Bool, ◌&&◌, nat_eq, if◌then◌else◌, List, slice_index_or, length}
-use Rattle.word12.specs.declared.sizes.TheConstants.{CORE}
+use Rattle.std.specs.Prelude.{ℕ, zero, suc, ◌+◌, Bool, ◌&&◌, nat_eq, if◌then◌else◌, List}
 use Rattle.cpu8.specs.State.{next_cell}
 use Rattle.cpu8.specs.Fetches.{is_fetch}
-use Rattle.terminal8e.specs.Terminal.{Terminal, later, after_step}
+use Rattle.pdp8e.specs.Terminal.{Terminal, later, after_step}
+use Rattle.profile8.specs.Counts.{AreCountsOf}
 
 -- whether the step that a terminal makes next fetches the word of a cell
 abbrev pub fetches : Terminal → ℕ → Bool
-fetches t cell = is_fetch (after_step t).1 && nat_eq (next_cell t.machine.base) cell
+fetches t cell = is_fetch (after_step t).1 && nat_eq (next_cell t.machine.processor.base) cell
 
 -- how often so many steps fetch it
 unfoldable pub fetch_count : ℕ → Terminal → ℕ → ℕ
@@ -15,6 +15,5 @@ fetch_count zero t cell = 0
 fetch_count (suc k) t cell = fetch_count k t cell + (if fetches (later k t) cell then 1 else 0)
 
 -- these are the counts of so many steps, one for each cell of core
-pub record AreCounts (steps : ℕ) (t : Terminal) (counts : List ℕ) : Type 0 where
-  pub size : length counts ≡ CORE
-  pub cells : (cell : ℕ) → cell < CORE → slice_index_or counts cell 0 ≡ fetch_count steps t cell
+abbrev pub AreCounts : ℕ → Terminal → List ℕ → Type 0
+AreCounts steps t counts = AreCountsOf (fetch_count steps t) counts

@@ -4,3 +4,5 @@ pub mod Tracing
 pub mod StoresSteps
 pub mod TracingSteps
 pub mod Counts
+pub mod Papers
+pub mod PaperSteps

@@ -1,7 +1,7 @@
 -- What tracing a run does.
 use Rattle.std.specs.Prelude.{◌≡◌, ℕ, ◌≤◌, ◌<◌, Bool, List, Option, Result, Ok, Err}
 use Rattle.std.specs.Io.KnownBytes.{Appends}
-use Rattle.terminal8e.specs.Terminal.{Terminal, later, GoesOn, IsRun}
+use Rattle.pdp8e.specs.Terminal.{Terminal, later, GoesOn, IsRun}
 use Rattle.terminal8.specs.declared.outcomes.Ended.{Ended}
 use Rattle.trace8e.specs.Trace.{trace_lines}
 use Rattle.trace8.specs.declared.faults.TraceFault.{TraceFault}

@@ -1,18 +1,15 @@
 -- The steps of tracing, for private clauses.
-use Rattle.std.specs.Prelude.{◌≡◌, ℕ, ◌≤◌, Bool, List, ◌++◌, Option, Result, Ok, Err}
-use Rattle.std.specs.Io.KnownBytes.{Appends}
-use Rattle.terminal8e.specs.Terminal.{Terminal, later, IsRun}
+use Rattle.std.specs.Prelude.{◌≡◌, ℕ, Bool, List, Option, Result, Ok, Err}
+use Rattle.pdp8e.specs.Terminal.{Terminal, later, IsRun}
 use Rattle.terminal8.specs.declared.outcomes.Ended.{Ended}
+use Rattle.trace8.specs.TracingSteps.{AreLinesOf}
 use Rattle.trace8e.specs.Trace.{trace_lines}
 use Rattle.trace8e.specs.Tracing.{IsCut}
 use Rattle.trace8.specs.declared.faults.TraceFault.{TraceFault}
 
--- Of the lines of so many steps a writer got the first, and the others wait.
-pub record AreLines (tagged : ℕ → Bool) (t : Terminal) (w w' : Option (List ℕ)) (lines : List ℕ) (steps : ℕ) : Type 0 where
-  pub written : ℕ
-  pub first : written ≤ steps
-  pub handed : Appends w w' (trace_lines tagged written t)
-  pub in_order : trace_lines tagged written t ++ lines ≡ trace_lines tagged steps t
+-- of the lines of so many steps a writer got the first, and the others wait
+abbrev pub AreLines : (ℕ → Bool) → Terminal → Option (List ℕ) → Option (List ℕ) → List ℕ → ℕ → Type 0
+AreLines tagged t w w' lines steps = AreLinesOf (λ k. trace_lines tagged k t) w w' lines steps
 
 -- a run was made, whose last lines may wait
 pub record IsTracedInto (tagged : ℕ → Bool) (n : ℕ) (t t' : Terminal) (w w' : Option (List ℕ)) (lines : List ℕ) (ended : Ended) : Type 0 where

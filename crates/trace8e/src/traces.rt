@@ -4,19 +4,24 @@ ghost use Rattle.std.specs.Prelude.{◌≡◌, ◌+◌, ◌^◌, ◌<◌, ◌++�
 ghost use Rattle.std.specs.Io.KnownBytes.{Appends};
 ghost use Rattle.word12.specs.declared.sizes.TheConstants.{CORE};
 ghost use Rattle.tape_source.specs.Tags.{is_flagged};
-ghost use Rattle.terminal8e.specs.Terminal.{next, after_step};
+ghost use Rattle.pdp8e.specs.Terminal.{next, after_step};
 ghost use Rattle.trace8e.specs.Trace.{next_line};
 ghost use Rattle.trace8e.specs.Tracing.{Traces};
+ghost use Rattle.trace8e.specs.PaperSteps.{GetStep};
+ghost use Rattle.trace8e.specs.Papers.{GetTraced};
 ghost use Rattle.trace8.specs.TracingSteps.{HandsOn};
 ghost use Rattle.trace8e.specs.TracingSteps.{TracesInto};
 ghost use Rattle.trace8.specs.declared.faults.TraceFault.TheVariants as fault;
 
 use crate::lines::put_line;
+use crate::moves::put_moved;
+use crate::papers::Papers;
 use crate::stores::Before;
 use cpu8::Stepped;
+use pdp8e::Terminal;
+use pdp8e::laws::step_has_parts;
 use std::alloc::{AllocError, Global};
 use terminal8::{Ended, Output, TerminalEnd, stop_of};
-use terminal8e::Terminal;
 use trace8::TraceFault;
 
 /// Makes steps of a terminal, at most n of them, and hands the line of each on to a writer, with these cells tagged. The k-th line is
@@ -24,12 +29,13 @@ use trace8::TraceFault;
 /// ends where no key is left and the machine waits for one for ever, or after n steps.
 ///
 /// Memory is taken once, before the first step, unless lines are longer than any that is known. The answer is `Writer` where the
-/// writer failed.
+/// writer failed. What the steps punch, and print on the line printer, is put on paper, however the trace ends.
 pub fn trace<O: Output>(
     alloc: Global,
     terminal: &mut Terminal<'_>,
     n: u64,
     tags: &[bool],
+    papers: &mut Papers,
     writer: &mut O,
 ) -> Result<Ended, TraceFault>
     requires tags { length tags.now ≡ CORE }
@@ -37,9 +43,10 @@ pub fn trace<O: Output>(
     ensures traces { Traces (is_flagged tags.now) n terminal.old terminal.new
         (O.contents writer.old) (O.contents writer.new) result }
     ensures cause { IfErr result (λ e. e ≡ fault.Writer → O.has_failed writer.new) }
+    ensures papers { GetTraced terminal.old terminal.new papers.old papers.new result }
 {
     let mut lines = Vec::with_capacity(alloc, HANDED_ON_AT_ONCE + LONGEST_LINE)?;
-    let ended = trace_steps(terminal, n, tags, &mut lines, writer)?;
+    let ended = trace_steps(terminal, n, tags, papers, &mut lines, writer)?;
     write_out(writer, &lines)?;
     Ok(ended)
 }
@@ -49,6 +56,7 @@ fn trace_steps<O: Output>(
     terminal: &mut Terminal<'_>,
     n: u64,
     tags: &[bool],
+    papers: &mut Papers,
     lines: &mut Vec<u8>,
     writer: &mut O,
 ) -> Result<Ended, TraceFault>
@@ -58,8 +66,9 @@ fn trace_steps<O: Output>(
     ensures traces { TracesInto (is_flagged tags.now) n terminal.old terminal.new
         (O.contents writer.old) (O.contents writer.new) lines.new.items result }
     ensures cause { IfErr result (λ e. e ≡ fault.Writer → O.has_failed writer.new) }
+    ensures papers { GetTraced terminal.old terminal.new papers.old papers.new result }
 {
-    if !terminal.machine().is_running() {
+    if !terminal.machine().processor().is_running() {
         return Ok(Ended {
             steps: 0,
             why: TerminalEnd::Halt,
@@ -73,7 +82,7 @@ fn trace_steps<O: Output>(
             });
         }
         hand_on(lines, writer)?;
-        let did = trace_step(terminal, tags, lines)?;
+        let did = trace_step(terminal, tags, papers, lines)?;
         if let Some(why) = stop_of(did) {
             return Ok(Ended {
                 steps: made + 1,
@@ -87,10 +96,11 @@ fn trace_steps<O: Output>(
     })
 }
 
-/// Makes a step, and appends its line.
+/// Makes a step, and appends its line, after that of a transfer that ends in its beginning.
 fn trace_step(
     terminal: &mut Terminal<'_>,
     tags: &[bool],
+    papers: &mut Papers,
     lines: &mut Vec<u8>,
 ) -> Result<Stepped, AllocError>
     requires tags { length tags.now ≡ CORE }
@@ -99,10 +109,15 @@ fn trace_step(
     ensures did { IfOk result (λ did. did ≡ (after_step terminal.old).1) }
     ensures line { OnOk result (lines.new.items ≡ lines.old.items
         ++ next_line (is_flagged tags.now) terminal.old) }
+    ensures papers { GetStep papers.old papers.new terminal.new.machine }
 {
-    let before = Before::of(terminal.machine());
-    let did = terminal.step();
-    put_line(lines, tags, &before, &did, terminal.machine())?;
+    step_has_parts();
+    let moved = terminal.begin_step();
+    let before = Before::of(terminal.machine().processor());
+    let did = terminal.finish_step();
+    papers.put(terminal.machine());
+    put_moved(lines, &moved)?;
+    put_line(lines, tags, &before, &did, terminal.machine().processor())?;
     Ok(did)
 }
 

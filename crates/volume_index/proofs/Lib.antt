@@ -1,4 +1,3 @@
 pub mod IndexLemmas
 pub mod JsonLemmas
-pub mod QuoteLemmas
 mod SameLemmas

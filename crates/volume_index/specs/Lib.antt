@@ -7,7 +7,6 @@ pub mod Years
 pub mod Quoting
 pub mod Columns
 pub mod Lines
-pub mod LineLaws
 pub mod Digests
 pub mod TextLines
 pub mod Same

@@ -4,7 +4,7 @@ use Rattle.md5.specs.Md5.{md5}
 use Rattle.os8_dates.specs.Spelling.{text_of_date}
 use Rattle.name_spelling.specs.Spelling.{text_of}
 use Rattle.volume_index.specs.declared.lines.IndexEntry.{IndexEntry}
-use Rattle.volume_index.specs.Quoting.{with_quotes}
+use Rattle.shown_text.specs.Showing.{with_quotes}
 use Rattle.volume_index.specs.Columns.{hexadecimal, kind_text, volume_text}
 
 -- the columns of where a file lies, each after a tab

@@ -1,5 +1,5 @@
 -- What steps of the code that finds equal files do. No contract of a public function cites these.
-use Rattle.std.specs.Prelude.{ℕ, nat_eq, ◌||◌, Bool, false, if◌then◌else◌, Option, None, Some, List, [], ◌∷◌, ◌++◌}
+use Rattle.std.specs.Prelude.{ℕ, nat_eq, ◌||◌, Bool, false, Option, None, Some, List, [], ◌∷◌, ◌++◌}
 use Rattle.std.specs.Global.{Vec}
 use Rattle.volume_index.specs.Digests.{digest_of}
 use Rattle.volume_index.specs.TextLines.{lines_from}

@@ -3,12 +3,12 @@ ghost use Rattle.os8_dates.specs.declared.years.TheConstants.{LAST_YEAR, LEAST_L
 ghost use Rattle.volume_index.specs.Lines.{content, digest, index_line, place};
 
 use crate::columns::{put_hexadecimal, put_kind, put_number, put_volume};
-use crate::quoting::put_quoted;
 use file_kind::FileKind;
 use md5::{Digest, Md5};
 use name_spelling::put_name;
 use os8_dates::put_date;
 use os8_dir::Name;
+use shown_text::put_quoted;
 use std::alloc::AllocError;
 use word12::Word;
 

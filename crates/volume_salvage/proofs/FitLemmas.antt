@@ -1,14 +1,17 @@
 -- Files of which those are kept that fit.
-use Rattle.std.proofs.Common.{◌≡◌, ℕ, suc, ◌+◌, Option, Some, None, Ok, List, [], ◌∷◌, ◌++◌, append_assoc, append-nil, refl, sym, ap, subst, ◌∙◌, arith}
+use Rattle.std.proofs.Common.{◌≡◌, ℕ, suc, ◌+◌, Option, Some, None, Ok, Err, List, [], ◌∷◌, ◌++◌, append_assoc, append-nil, refl, sym, ap, subst, ◌∙◌, arith}
 use Rattle.std.specs.FinMap.{from_entries, insert}
 use Rattle.os8_dir.specs.Files.{Files, capacity_of, files_of}
 use Rattle.os8_dir.specs.Names.{with_end_zeros}
 use Rattle.os8_files.specs.Calls.{IsReady, info_of}
 use Rattle.os8_files.specs.Mounted.{MountState}
-use Rattle.volume_salvage.specs.Rescued.{AreJudged, HasNoPlace, files_to_keep, with_files}
+use Rattle.volume_image.specs.Image.{IsNewVolume}
+use Rattle.volume_salvage.specs.Rescued.{AreJudged, FitsFiles, HasNoPlace, files_to_keep, with_files}
 use Rattle.volume_salvage.specs.Rows.{Differ}
-use Rattle.volume_salvage.specs.Steps.{FitsFile, IsRow}
+use Rattle.volume_salvage.specs.Steps.{FitsFile, IsRow, KeepsFitting}
 use Rattle.volume_salvage.specs.declared.faults.Refusal.{Refusal}
+use Rattle.volume_salvage.specs.declared.faults.RescueFault.{RescueFault}
+use Rattle.volume_salvage.specs.declared.faults.RescueFault.TheVariants.{Image, Unread, Refused}
 use Rattle.volume_salvage.specs.declared.volumes.KeptFile.{KeptFile}
 use Rattle.volume_salvage.proofs.RescueLemmas.{ready-again}
 use Rattle.volume_salvage.proofs.RowLemmas.{differ-init, row-more, same-row}
@@ -104,3 +107,9 @@ all-fitted start now all rest place refusals so is =
       subst (AreJudged info capacity [] 0 all) (append-nil refusals) (so.judges [] nothing),
       λ empty differ. subst (IsRow now.blocks) (sym keeps) (so.row empty (subst Differ keeps differ)),
     )
+
+-- a failed call, or want of memory, is answered as it is
+pub failed-fits : (old new : MountState) (count : ℕ) (blocks : List (List ℕ)) (files : List KeptFile) (why : RescueFault) → IsNewVolume count blocks → KeepsFitting old files (Err why) new → FitsFiles count files (Err why)
+failed-fits old new count blocks files (Image fault) made is = rw is (omega (arith, made.volume.least, made.size), omega (arith, made.volume.most, made.size))
+failed-fits old new count blocks files Unread made is = absurd is
+failed-fits old new count blocks files (Refused refusal) made is = is

@@ -1,12 +1,12 @@
 -- Files that are put one right after the other.
-use Rattle.std.proofs.Common.{◌≡◌, ◌≢◌, ℕ, zero, suc, ◌+◌, ◌-◌, ◌<◌, ◌≤◌, Bool, true, false, Option, Some, None, Result, Ok, Err, is_ok, List, [], ◌∷◌, ◌++◌, take, length, if◌then◌else◌, refl, sym, ap, subst, ◌∙◌, arith, inl, inr}
+use Rattle.std.proofs.Common.{◌≡◌, ◌≢◌, ℕ, zero, suc, ◌+◌, ◌-◌, ◌<◌, ◌≤◌, true, false, Option, Some, None, Result, Ok, Err, is_ok, List, [], ◌∷◌, ◌++◌, take, length, if◌then◌else◌, refl, sym, ap, subst, ◌∙◌, arith, inl, inr}
 use Rattle.std.specs.FinMap.{from_entries, get, get-from_entries}
 use Rattle.std.proofs.lemmas.Cmp.{nat_cmp_total}
 use Rattle.std.proofs.lemmas.Bool.Decides.{eqb_tells, leb_tells}
 use Rattle.os8_dir.specs.declared.entries.DirEntry.{DirEntry}
 use Rattle.os8_dir.specs.declared.entries.DirEntry.TheVariants.{File, Empty}
 use Rattle.os8_dir.specs.Changes.{entries_without, fitting, is_within, new_file, put, smaller, smallest, with_new_file}
-use Rattle.os8_dir.specs.Entries.{DirectoryState, before, capacity, is_zero, size_of, tidy, total, IsTidy}
+use Rattle.os8_dir.specs.Entries.{DirectoryState, before, capacity, is_zero, size_of, tidy, IsTidy}
 use Rattle.os8_dir.specs.Files.{Files, capacity_of, data_if_there, files_of}
 use Rattle.os8_dir.specs.Found.{FilePlace, IsDirectory, files_at, find, largest, rooms_at}
 use Rattle.os8_dir.specs.Names.{with_end_zeros}

@@ -52,6 +52,26 @@ pub record IsAt (kept : List KeptFile) (place : ℕ) (Is : KeptFile → Type 0) 
 pub record Refuses (old : MountState) (f : KeptFile) (fault : FileFault) (new : MountState) : Type 0 where
   pub puts : PutsFileWith old f.name f.info f.words.items (Err fault) new
 
+-- a fault of the call, and not of the file
+abbrev pub IsOfCall : FileFault → Type 0
+IsOfCall file.NotFound = Unit {0}
+IsOfCall (file.NoRoom largest) = ⊥
+IsOfCall file.DirectoryFull = ⊥
+IsOfCall (file.Busy name) = Unit {0}
+IsOfCall file.BadName = Unit {0}
+IsOfCall file.TooLong = Unit {0}
+IsOfCall file.TentativeOpen = Unit {0}
+IsOfCall file.Device = Unit {0}
+IsOfCall file.Stopped = Unit {0}
+IsOfCall file.Memory = Unit {0}
+IsOfCall file.NothingWritten = Unit {0}
+
+-- a call that puts a file into a volume failed
+pub record CallFailed (old : MountState) (f : KeptFile) (new : MountState) : Type 0 where
+  pub fault : FileFault
+  pub of_call : IsOfCall fault
+  pub refuses : Refuses old f fault new
+
 -- A file is put into a volume, or why not.
 abbrev pub Keeps : MountState → KeptFile → ℕ → Result (Unit {0}) Refusal → MountState → Type 0
 Keeps old f place (Ok done) new = AreBlocks f.words.items × HasPutWith old f.name f.info f.words.items new
@@ -59,7 +79,7 @@ Keeps old f place (Err (NoName at)) new = (at ≡ place) × (IsNamed f.name → 
 Keeps old f place (Err (NotWhole at)) new = (at ≡ place) × (AreBlocks f.words.items → ⊥) × (new ≡ old)
 Keeps old f place (Err (NoRoom at largest)) new = (at ≡ place) × Refuses old f (file.NoRoom largest) new
 Keeps old f place (Err (DirectoryFull at)) new = (at ≡ place) × Refuses old f file.DirectoryFull new
-Keeps old f place (Err (Failed at)) new = (at ≡ place) × ((fault : FileFault) × Refuses old f fault new)
+Keeps old f place (Err (Failed at)) new = (at ≡ place) × CallFailed old f new
 
 -- a file is the first that isn't put, for this
 pub record IsRefused (refusal : Refusal) (place : ℕ) (f : KeptFile) : Type 0 where
@@ -71,6 +91,12 @@ pub record IsRefused (refusal : Refusal) (place : ℕ) (f : KeptFile) : Type 0 w
 pub record IsRefusedOf (kept : List KeptFile) (refusal : Refusal) : Type 0 where
   pub place : ℕ
   pub at : IsAt kept place (IsRefused refusal place)
+
+-- the file at the place that a refusal gives is the one whose call failed
+pub record HasFailedOf (kept : List KeptFile) (refusal : Refusal) : Type 0 where
+  pub place : ℕ
+  pub failed : refusal ≡ Failed place
+  pub at : IsAt kept place (IsRefused (Failed place) place)
 
 -- what is answered where a volume of so many blocks with these files is wanted
 abbrev pub Rescues : ℕ → List KeptFile → Result (Vec ℕ) RescueFault → Type 0
@@ -125,4 +151,4 @@ abbrev pub FitsFiles : ℕ → List KeptFile → Result FittedVolume RescueFault
 FitsFiles count files (Ok volume) = IsFitted count files volume
 FitsFiles count files (Err (Image fault)) = Creates count (Err fault)
 FitsFiles count files (Err Unread) = (8 ≤ count) × (count ≤ MOST_BLOCKS)
-FitsFiles count files (Err (Refused refusal)) = (place : ℕ) × (refusal ≡ Failed place)
+FitsFiles count files (Err (Refused refusal)) = HasFailedOf files refusal

@@ -4,6 +4,7 @@ use Rattle.char_pack.specs.Packing.{frames}
 use Rattle.char_pack.specs.declared.packing.TheConstants.{BLOCK_FRAMES}
 use Rattle.archive_files.specs.declared.forms.GetForm.{GetForm}
 use Rattle.archive_files.specs.declared.forms.GetForm.TheVariants as form
+use Rattle.file_kind.specs.Texts.{is_graphic}
 use Rattle.block_scan.specs.Pieces.{texts_among}
 use Rattle.block_scan.specs.Programs.{AreProgramsOf}
 use Rattle.block_scan.specs.Segments.{segments_among}
@@ -22,10 +23,7 @@ use Rattle.volume_salvage.specs.declared.pieces.PieceKind.TheVariants.{Text, Cor
 use Rattle.volume_salvage.specs.declared.scans.Scan.{Scan}
 use Rattle.volume_salvage.specs.declared.scan_lines.TheConstants.{MOST_SHOWN}
 
--- a character that is seen, and one that is or is a blank
-abbrev pub is_graphic : ℕ → Bool
-is_graphic character = nat_le 0o41 character && nat_le character 0o176
-
+-- a character that is seen, or a blank
 abbrev pub is_shown : ℕ → Bool
 is_shown character = nat_le 0o40 character && nat_le character 0o176
 

@@ -12,8 +12,9 @@ use Rattle.os8_files.specs.Mounted.{MountState}
 use Rattle.os8_files.specs.Puts.{HasPutWith, blocks_filled}
 use Rattle.std.specs.Global.{Vec}
 use Rattle.word12.specs.declared.sizes.TheConstants.{FIRST_FILE_BLOCK}
+use Rattle.volume_image.specs.declared.faults.ImageFault.TheVariants as image
 use Rattle.volume_salvage.specs.Rows.{Differ}
-use Rattle.volume_salvage.specs.Rescued.{AreBlocks, AreJudged, IsOfFile, IsRefusedOf, Keeps, files_to_keep, with_files}
+use Rattle.volume_salvage.specs.Rescued.{AreBlocks, AreJudged, HasFailedOf, IsOfFile, IsRefusedOf, Keeps, files_to_keep, with_files}
 use Rattle.volume_salvage.specs.declared.faults.Refusal.{Refusal}
 use Rattle.volume_salvage.specs.declared.faults.Refusal.TheVariants.{Failed}
 use Rattle.volume_salvage.specs.declared.faults.RescueFault.{RescueFault}
@@ -69,16 +70,14 @@ pub record StaysSame (old new : MountState) : Type 0 where
 abbrev pub FitsFile : MountState → KeptFile → ℕ → Result (Option Refusal) Refusal → MountState → Type 0
 FitsFile old f place (Ok None) new = AreBlocks f.words.items × HasPutWith old f.name f.info f.words.items new
 FitsFile old f place (Ok (Some refusal)) new = Keeps old f place (Err refusal) new × IsOfFile refusal × StaysSame old new
-FitsFile old f place (Err refusal) new = (at : ℕ) × (refusal ≡ Failed at)
+FitsFile old f place (Err refusal) new = (refusal ≡ Failed place) × Keeps old f place (Err (Failed place)) new
 
--- what fits of some files is put into an empty volume
-abbrev pub KeepsFitting : MountState → List KeptFile → Result (Vec (Option Refusal)) Refusal → MountState → Type 0
+-- what fits of some files is put into an empty volume, or memory ran out, or a call failed
+abbrev pub KeepsFitting : MountState → List KeptFile → Result (Vec (Option Refusal)) RescueFault → MountState → Type 0
 KeepsFitting old files (Ok refusals) new = (info_of new.blocks ≡ info_of old.blocks)
     × (files_of new.blocks ≡ with_files (info_of old.blocks) (from_entries []) (files_to_keep files refusals.items))
     × AreJudged (info_of old.blocks) (capacity_of old.blocks) [] 0 files refusals.items
     × (IsRow old.blocks [] → Differ (files_to_keep files refusals.items) → IsRow new.blocks (files_to_keep files refusals.items))
-KeepsFitting old files (Err refusal) new = (at : ℕ) × (refusal ≡ Failed at)
-
-abbrev pub AddsRefusal : List (Option Refusal) → Option Refusal → Result (Unit {0}) Refusal → List (Option Refusal) → Type 0
-AddsRefusal old refusal (Ok it) new = new ≡ old ++ refusal ∷ []
-AddsRefusal old refusal (Err why) new = (at : ℕ) × (why ≡ Failed at)
+KeepsFitting old files (Err (Image fault)) new = fault ≡ image.Memory
+KeepsFitting old files (Err Unread) new = ⊥
+KeepsFitting old files (Err (Refused refusal)) new = HasFailedOf files refusal

@@ -1,6 +1,8 @@
 ghost use Rattle.std.specs.Prelude.{◌≡◌};
+ghost use Rattle.volume_image.specs.declared.faults.ImageFault.TheVariants.{Memory};
 ghost use Rattle.volume_salvage.specs.declared.faults.RescueFault.TheVariants as rescue;
 
+use std::alloc::AllocError;
 use thiserror::Error;
 use volume_image::ImageFault;
 
@@ -42,6 +44,14 @@ pub enum RescueFault {
     /// A file is refused, the first one.
     #[error("{0}")]
     Refused(Refusal),
+}
+
+impl From<AllocError> for RescueFault {
+    ghost from_gives = { λ _ fault. fault ≡ rescue.Image Memory };
+
+    fn from(_error: AllocError) -> RescueFault {
+        RescueFault::Image(ImageFault::Memory)
+    }
 }
 
 impl From<ImageFault> for RescueFault {

@@ -1,16 +1,16 @@
 //! A new volume with what fits of some files.
-ghost use Rattle.std.specs.Prelude.{◌≡◌, []};
+ghost use Rattle.std.specs.Prelude.{◌≡◌, ◌∷◌, ◌++◌, [], OnOk};
 ghost use Rattle.std.specs.FinMap.{from_entries};
 ghost use Rattle.os8_dir.specs.Files.{files_of};
 ghost use Rattle.os8_files.specs.Calls.{IsReady};
 ghost use Rattle.volume_salvage.specs.Rescued.{FitsFiles};
-ghost use Rattle.volume_salvage.specs.Steps.{AddsRefusal, FitsFile, KeepsFitting};
+ghost use Rattle.volume_salvage.specs.Steps.{FitsFile, KeepsFitting};
 
 use crate::volumes::{KeptFile, keep_file, mount_new};
 use crate::{Refusal, RescueFault};
 use os8_dir::laws::new_volumes;
 use os8_files::FileService;
-use std::alloc::Global;
+use std::alloc::{AllocError, Global};
 use volume_image::MemoryVolume;
 
 /// The image of a new volume, and for each of the files that were to be kept why it is not there, if it isn't.
@@ -45,7 +45,7 @@ fn keep_what_fits(
     alloc: Global,
     service: &mut FileService<MemoryVolume>,
     files: &[KeptFile],
-) -> Result<Vec<Option<Refusal>>, Refusal>
+) -> Result<Vec<Option<Refusal>>, RescueFault>
     requires ready { IsReady service.old }
     requires none { files_of service.old.blocks ≡ from_entries [] }
     ensures { KeepsFitting service.old files.now result service.new }
@@ -55,7 +55,7 @@ fn keep_what_fits(
     let mut rest = files;
     while let [file, others @ ..] = rest {
         let refusal = fit_file(alloc, service, file, place)?;
-        add_refusal(&mut refusals, refusal, place)?;
+        add_refusal(&mut refusals, refusal)?;
         place += 1;
         rest = others;
     }
@@ -82,16 +82,13 @@ fn fit_file(
     }
 }
 
-/// Adds why the file at a place is refused, if it is.
+/// Adds why a file is refused, if it is.
 fn add_refusal(
     refusals: &mut Vec<Option<Refusal>>,
     refusal: Option<Refusal>,
-    place: usize,
-) -> Result<(), Refusal>
-    ensures { AddsRefusal refusals.old.items refusal result refusals.new.items }
+) -> Result<(), AllocError>
+    ensures { OnOk result (refusals.new.items ≡ refusals.old.items ++ refusal ∷ []) }
 {
-    match refusals.push(refusal) {
-        Ok(()) => Ok(()),
-        Err(_) => Err(Refusal::Failed(place)),
-    }
+    refusals.push(refusal)?;
+    Ok(())
 }

@@ -6,6 +6,7 @@ ghost use Rattle.volume_salvage.specs.Scanning.{characters_in, detail, first_lin
 
 use crate::pieces::{Piece, PieceKind};
 use char_pack::BLOCK_FRAMES;
+use file_kind::is_graphic;
 use refusals::text_lines::{TextLine, put, put_number};
 use std::alloc::AllocError;
 
@@ -101,13 +102,6 @@ fn from_graphic(frames: &[u8]) -> &[u8]
         rest = others;
     }
     rest
-}
-
-/// Whether a character is seen.
-fn is_graphic(character: u8) -> bool
-    ensures { result ≡ spec.is_graphic character }
-{
-    matches!(character, 0o41..=0o176)
 }
 
 /// Appends what a line begins with, no more characters than are shown.

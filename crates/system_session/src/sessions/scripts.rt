@@ -1,12 +1,13 @@
 //! Scripts: the lines of a reader, whose answers a writer gets.
 
-ghost use Rattle.std.specs.Prelude.{◌≡◌, ◌≢◌, ℕ, ◌<◌, ◌≤◌, List, ◌∷◌, ◌++◌, [], length, drop, vec_capacity, OnOk, IfOk, IfErr, ◌⊎◌, true, false, Ok, Err, None, Some, option_copied};
+ghost use Rattle.std.specs.Prelude.{◌≡◌, ◌≢◌, ℕ, ◌<◌, ◌≤◌, List, ◌∷◌, ◌++◌, [], length, drop, vec_capacity, OnErr, OnOk, IfOk, IfErr, ◌⊎◌, true, false, Ok, Err, None, Some, option_copied};
 ghost use Rattle.script8.specs.Items.{script_of, WaitsForLines, HasNoItem};
 ghost use Rattle.script8.specs.Replies.{answer_lines, IsShort};
 ghost use Rattle.refusals.specs.declared.faults.SessionFault.TheVariants as fault;
 ghost use Rattle.script8.specs.declared.items.Item.TheVariants.{Do, Finish};
 ghost use Rattle.volume_jobs.specs.Jobs.{lowest_job, turns_left};
-ghost use Rattle.script8.specs.Reading.{MayReadNoMore, TakesBytes};
+ghost use Rattle.script8.specs.Reading.{IsReaderEnd, MayReadNoMore, TakesBytes};
+ghost use Rattle.system_session.specs.ReadSteps.{ReadsPiece};
 ghost use Rattle.system_session.specs.RunSteps.{EndsWith, IsBegun, IsEnded, IsTold, RunsGiven, RunsItems, RunsNext, RunsPrefix, RunsRead, RunsTurn, Tells, WasShown, watch};
 ghost use Rattle.system_session.specs.Script.{RunsText, is_working};
 ghost use Rattle.system_session.specs.ShownAnswers.{ShownAnswer, ShowsOne, ShowsText};
@@ -56,13 +57,14 @@ impl<S: BlockStore> Session<S> {
 
     /// The same, where a watcher gets each item before it is done, and prints the lines. It is shown each answer with its lines, and with
     /// the store right after it: just these, one after another, in the run that `told` says of. Where the watcher ends the run, the answer
-    /// is `Writer`, as where printing fails. It is `Reader` only where the reader has failed, or one byte too many was taken.
+    /// is `Writer`, as where printing fails. The reader is only asked where the watcher has handed on all lines. It is `Reader` only where the reader has failed, or one byte too many was taken.
     pub fn run_watched<R: ByteReader, K: Watcher<S>>(
         &mut self,
         alloc: Global,
         reader: &mut R,
         watcher: &mut K,
     ) -> Result<(), SessionFault>
+        requires { K.is_flushed watcher.old }
         ensures told { NoCallFailed self.old self.new
             → RunsText 16777216 (state_of self.old) (state_of self.new)
             (R.remaining reader.old) (R.remaining reader.new)
@@ -96,6 +98,7 @@ impl<S: BlockStore> Session<S> {
         reader: &mut R,
         watcher: &mut K,
     ) -> Result<(), Ending>
+        requires { K.is_flushed watcher.old }
         ensures told { (first : K) → NoCallFailed self.old self.new
             → RunsRead 16777216 (state_of self.old) (state_of self.new)
             (R.remaining reader.old) (R.remaining reader.new)
@@ -116,17 +119,48 @@ impl<S: BlockStore> Session<S> {
         let mut pending = Pending::new(alloc);
         loop {
             if pending.count == MOST {
-                if ends(reader)? {
+                if Self::ends(reader, watcher)? {
                     return self.run_end(alloc, &pending.bytes, watcher);
                 }
                 return Err(Ending::Reader);
             }
-            let at_end = pending.read(reader, &mut piece)?;
+            let at_end = Self::read_more(&mut pending, reader, &mut piece, watcher)?;
             if at_end {
                 return self.run_end(alloc, &pending.bytes, watcher);
             }
             self.run_given(alloc, &mut pending, watcher)?;
         }
+    }
+
+    /// Reads once, as `Pending::read` does, where all lines were handed on.
+    fn read_more<R: ByteReader, K: Watcher<S>>(
+        pending: &mut Pending,
+        reader: &mut R,
+        piece: &mut [u8],
+        watcher: &K,
+    ) -> Result<bool, SessionFault>
+        requires flushed { K.is_flushed watcher.now }
+        requires piece { 0 < length piece.old }
+        requires count { pending.old.count < 16777216 }
+        requires waits { (0 < pending.old.lines) × WaitsForLines pending.old.bytes.items pending.old.lines }
+        ensures read { ReadsPiece 16777216 (R.remaining reader.old) (R.remaining reader.new)
+            pending.old.bytes.items pending.old.count pending.new.bytes.items pending.new.lines pending.new.count result }
+        ensures cause { IfErr result (λ e. e ≡ fault.Reader → R.has_failed reader.new) }
+        ensures kept { (first : R) → R.follows first reader.old → R.follows first reader.new }
+    {
+        let _ = watcher;
+        pending.read(reader, piece)
+    }
+
+    /// Whether the reader has no byte more, where all lines were handed on; else it takes one more.
+    fn ends<R: ByteReader, K: Watcher<S>>(reader: &mut R, watcher: &K) -> Result<bool, SessionFault>
+        requires { K.is_flushed watcher.now }
+        ensures end { IsReaderEnd (R.remaining reader.old) (R.remaining reader.new) result }
+        ensures cause { OnErr result (R.has_failed reader.new) }
+        ensures kept { (first : R) → R.follows first reader.old → R.follows first reader.new }
+    {
+        let _ = watcher;
+        ends(reader)
     }
 
     /// Runs the whole items of what a reader gave and may go on from, and hands their lines on.
@@ -136,7 +170,9 @@ impl<S: BlockStore> Session<S> {
         pending: &mut Pending,
         watcher: &mut K,
     ) -> Result<(), Ending>
-        requires { WaitsForLines pending.old.bytes.items pending.old.lines }
+        requires waits { WaitsForLines pending.old.bytes.items pending.old.lines }
+        requires flushed { K.is_flushed watcher.old }
+        ensures flushed { OnOk result (K.is_flushed watcher.new) }
         ensures told { (first : K) → NoCallFailed self.old self.new
             → RunsGiven pending.old.bytes.items pending.new.bytes.items
             (state_of self.old) (state_of self.new) (watch K.contents K.was_shown first watcher.old)
@@ -375,6 +411,7 @@ impl<S: BlockStore> Session<S> {
 
     /// Hands on what was written.
     fn flush<K: Watcher<S>>(watcher: &mut K) -> Result<(), Ending>
+        ensures flushed { OnOk result (K.is_flushed watcher.new) }
         ensures ok { (first : K) → OnOk result (Tells (watch K.contents K.was_shown first watcher.old) (watch K.contents K.was_shown first watcher.new) []) }
         ensures err { IfErr result (λ e. e ≡ ending.Writer) }
         ensures shown { (first : K) → WasShown (watch K.contents K.was_shown first watcher.old) (watch K.contents K.was_shown first watcher.new) [] }

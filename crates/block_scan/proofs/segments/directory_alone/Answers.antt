@@ -16,4 +16,4 @@ returns-in-Err-clause-directory c =
     (subst (IsNone c.no_directory.result)
     (read-alone c.args.scratch.now.blocks c.write.new.self.blocks c.args.words.now (omega (arith, c.blocks-blocks.ensures.volume.least)) (omega (arith, c.requires))
     (ap (λ v. v.blocks) c.write.ensures.words ∙ ap (λ b. slice_set c.args.scratch.now.blocks 1 b) c.block_without_link-block.ensures))
-    (c.no_directory.ensures _ c.in-Err.ensures.reading))
+    (c.no_directory.ensures.none _ c.in-Err.ensures.reading))

@@ -27,6 +27,7 @@ returns c = record {
   teletype = λ tape text. all_taken _ _ refl;
   trace = λ tape text. all_taken _ _ refl;
   profile = λ tape text. all_taken _ _ refl;
+  boot = λ image text. all_taken _ _ refl;
   check = λ image text. all_taken _ _ refl;
   index = λ image text. all_taken _ _ refl;
   dump = λ image text. all_taken _ _ refl;

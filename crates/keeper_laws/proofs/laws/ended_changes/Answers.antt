@@ -1,5 +1,4 @@
 use Rattle.keeper_laws.proofs.ChangeLemmas.{delete-ends, rename-ends, squeeze-ends}
-use Rattle.keeper_laws.proofs.CopyAllLemmas.{copy-all-ends}
 use Rattle.keeper_laws.proofs.CopyLemmas.{copy-ends}
 use Rattle.keeper_laws.proofs.PutLemmas.{put-ends}
 use Rattle.keeper_laws.proofs.laws.ended_changes.Goals as goal
@@ -8,10 +7,7 @@ pub returns-clause-puts : goal.returns-clause-puts
 returns-clause-puts c = put-ends c.found_again.ensures.saved c.found_again.ensures.unsaved
 
 pub returns-clause-copies : goal.returns-clause-copies
-returns-clause-copies c form = copy-ends c.found_again.ensures.saved c.found_again.ensures.unsaved form (c.refused_changes.ensures.copies form)
-
-pub returns-clause-copies_all : goal.returns-clause-copies_all
-returns-clause-copies_all c = copy-all-ends c.found_again.ensures.saved c.found_again.ensures.unsaved
+returns-clause-copies c = copy-ends c.found_again.ensures.saved c.found_again.ensures.unsaved
 
 pub returns-clause-squeezes : goal.returns-clause-squeezes
 returns-clause-squeezes c form = squeeze-ends c.found_again.ensures.saved c.found_again.ensures.unsaved form (c.refused_changes.ensures.squeezes form)

@@ -1,6 +1,5 @@
 use Rattle.keeper_laws.specs.Changes.{HasDeleted, HasEmptied, HasPatched, HasRenamed, HasSqueezed}
 use Rattle.keeper_laws.specs.Copied.{HasCopied}
-use Rattle.keeper_laws.specs.CopiedAll.{HasCopiedAll}
 use Rattle.keeper_laws.specs.Stored.{HasStored}
 use Rattle.keeper_laws.proofs.TouchLemmas.{ends-touches, gets-touches, patch-touches}
 use Rattle.keeper_laws.proofs.laws.touched_files.Goals as goal
@@ -11,11 +10,7 @@ returns-clause-puts c form old result new p =
 
 pub returns-clause-copies : goal.returns-clause-copies
 returns-clause-copies c form old result new p =
-    ends-touches form.to (HasCopied form) (λ ok old new s. gets-touches form.to s.image s.path s.was s.made.bytes.items old new s.opened s.has) result old new (c.ended_changes.ensures.copies form old result new p)
-
-pub returns-clause-copies_all : goal.returns-clause-copies_all
-returns-clause-copies_all c form old result new p =
-    ends-touches form.to (HasCopiedAll form) (λ ok old new s. gets-touches form.to s.image s.path s.was s.made.items old new s.opened s.has) result old new (c.ended_changes.ensures.copies_all form old result new p)
+    ends-touches form.to (HasCopied form) (λ ok old new s. gets-touches form.to s.image s.path s.was s.made.items old new s.opened s.has) result old new (c.ended_changes.ensures.copies form old result new p)
 
 pub returns-clause-squeezes : goal.returns-clause-squeezes
 returns-clause-squeezes c form old result new p =

@@ -1,4 +1,5 @@
-use Rattle.keeper_laws.proofs.RefusedLemmas.{copies-leave, deletes-leave, renames-leave, squeezes-leave}
+use Rattle.keeper_laws.proofs.CopyLemmas.{copies-leave}
+use Rattle.keeper_laws.proofs.RefusedLemmas.{deletes-leave, renames-leave, squeezes-leave}
 use Rattle.keeper_laws.proofs.verb_laws.refused_changes.Goals as goal
 
 pub returns : goal.returns

@@ -13,8 +13,8 @@ returns c =
     let made = c.in-Ok-words.ensures in
     record {
       assembled =
-          all_words c.args.options (text_of c.args.text.now) c.read.new.self c.in-Ok.end c.words.new.pools c.in-Ok-words.pairs.items c.push_pool.new.pairs.items reads made
-          (has_some c.in-Ok-words.pairs.items (c.if-is_empty.ensures ∙ ap (λ n. nat_eq n 0) c.in-Ok-words.pairs.ok.0)) (c.in_ok-push_pool.ensures made.made.asks made.made.punched made.holds);
-      count = c.len-word_count.ensures ∙ c.in-Ok-words.pairs.ok.0 ∙ ap length made.words;
+          all_words c.args.options (text_of c.args.text.now) c.read.new.self c.in-Ok.end c.in-Ok-words.made.pools c.in-Ok-words.made.pairs.items c.push_pool.new.pairs.items reads made
+          (has_some c.in-Ok-words.made.pairs.items (c.if-is_empty.ensures ∙ ap (λ n. nat_eq n 0) c.in-Ok-words.made.pairs.ok.0)) (c.in_ok-push_pool.ensures made.made.asks made.made.punched made.holds);
+      count = c.len-word_count.ensures ∙ c.in-Ok-words.made.pairs.ok.0 ∙ ap length made.words;
       leaves = reads.0;
     }

@@ -1,5 +1,8 @@
 use Rattle.program.proofs.doing.do_task.Goals as goal
-use Rattle.program.proofs.doing.do_task.Goals.{in-Profile, in-Tape, in-Rim, in-Source, in-List, in-ListLong, in-ListSome, in-Get, in-GetBin, in-GetMany, in-GetTexts, in-GetBlocks, in-Check, in-Index, in-Dump, in-Scan, in-Rescue, in-Create, in-CreateTape, in-CreateDisk, in-CreateVolume, in-Put, in-Delete, in-Rename, in-Copy, in-CopyMany, in-Squeeze, in-Patch, in-Assemble}
+use Rattle.program.proofs.doing.do_task.Goals.{in-Profile, in-Tape, in-Rim, in-Source, in-List, in-ListLong, in-ListSome, in-Get, in-GetBin, in-GetMany, in-GetTexts, in-GetBlocks, in-Check, in-Index, in-Dump, in-Scan, in-Rescue, in-Create, in-CreateTape, in-CreateDisk, in-CreateVolume, in-Put, in-Delete, in-Rename, in-Copy, in-Squeeze, in-Patch, in-Assemble}
+
+pub returns-in-Boot : goal.returns-in-Boot
+returns-in-Boot g c = rw c.in-Boot.is c.boot_disk.ensures
 
 pub returns-in-Teletype : goal.returns-in-Teletype
 returns-in-Teletype g c = rw c.in-Teletype.is c.run_teletype.ensures
@@ -37,7 +40,6 @@ returns g c = elim c.match-task.branch [
   | in-Delete w ↦ rw (w.in-Delete.is, w.host-is, w.work-is) w.change_image-work-in-Delete.ensures
   | in-Rename w ↦ rw (w.in-Rename.is, w.host-is, w.work-is) w.change_image-work-in-Rename.ensures
   | in-Copy w ↦ rw (w.in-Copy.is, w.host-is, w.work-is) w.change_image-work-in-Copy.ensures
-  | in-CopyMany w ↦ rw (w.in-CopyMany.is, w.host-is, w.work-is) w.change_image-work-in-CopyMany.ensures
   | in-Squeeze w ↦ rw (w.in-Squeeze.is, w.host-is, w.work-is) w.change_image-work-in-Squeeze.ensures
   | in-Patch w ↦ rw (w.in-Patch.is, w.host-is, w.work-is) (rw w.word_change.ensures at w.change_image-work-in-Patch.ensures)
   | in-Assemble w ↦ rw (w.in-Assemble.is, w.host-is, w.work-is) w.change_image-work-in-Assemble.ensures

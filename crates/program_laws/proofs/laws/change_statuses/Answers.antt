@@ -1,6 +1,5 @@
 use Rattle.std.proofs.Common.{refl}
 use Rattle.program_tasks.specs.declared.tasks.Task.TheVariants as task
-use Rattle.change_commands.specs.CopyingMany.{CopiesMany}
 use Rattle.change_commands.specs.Changing.{Renames, Squeezes}
 use Rattle.change_commands.specs.Copying.{Copies}
 use Rattle.change_commands.specs.Deleting.{Deletes}
@@ -8,9 +7,8 @@ use Rattle.put_commands.specs.Putting.{Puts}
 use Rattle.archive_files.specs.Asking.{target_of}
 use Rattle.keeper_laws.specs.Changes.{HasDeleted, HasRenamed, HasSqueezed}
 use Rattle.keeper_laws.specs.Copied.{HasCopied}
-use Rattle.keeper_laws.specs.CopiedAll.{HasCopiedAll}
 use Rattle.keeper_laws.specs.Stored.{HasStored}
-use Rattle.program_laws.proofs.StatusLemmas.{copy-all-reports, copy-reports, delete-reports, put-reports, rename-reports, squeeze-reports, task-means}
+use Rattle.program_laws.proofs.StatusLemmas.{copy-reports, delete-reports, put-reports, rename-reports, squeeze-reports, task-means}
 use Rattle.program_laws.proofs.laws.change_statuses.Goals as goal
 
 pub returns-clause-puts : goal.returns-clause-puts
@@ -20,10 +18,6 @@ returns-clause-puts g c form is_typed before after =
 pub returns-clause-copies : goal.returns-clause-copies
 returns-clause-copies g c form is_typed before after =
     task-means form.to (HasCopied form) (copy-reports form) (Copies form) (c.ended_changes.ensures.copies form) form.to.wait form.to.file.bytes.items (task.Copy form) is_typed _ refl (λ old work new p. p)
-
-pub returns-clause-copies_all : goal.returns-clause-copies_all
-returns-clause-copies_all g c form is_typed before after =
-    task-means form.to (HasCopiedAll form) (copy-all-reports form) (CopiesMany form) (c.ended_changes.ensures.copies_all form) form.to.wait form.to.file.bytes.items (task.CopyMany form) is_typed _ refl (λ old work new p. p)
 
 pub returns-clause-squeezes : goal.returns-clause-squeezes
 returns-clause-squeezes g c form is_typed before after =

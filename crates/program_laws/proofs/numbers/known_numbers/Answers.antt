@@ -13,6 +13,9 @@ returns-clause-volumes c = (refl, refl)
 pub returns-clause-files : goal.returns-clause-files
 returns-clause-files c = (refl, refl, refl, refl, refl, refl)
 
+pub returns-clause-packs : goal.returns-clause-packs
+returns-clause-packs c = (refl, refl, refl)
+
 pub returns-clause-sources : goal.returns-clause-sources
 returns-clause-sources c = (refl, refl, refl, refl)
 

@@ -1,6 +1,6 @@
 use Rattle.std.proofs.Common.{◌∙◌, ◌++◌, [], Some, refl, rules}
 use Rattle.hosts.specs.Streams.{output_text}
-use Rattle.script_commands.proofs.InputLemmas.{given_none, taken_more}
+use Rattle.script_commands.proofs.InputLemmas.{given_none, taken_more, taken_within}
 use Rattle.script_commands.proofs.SessionLemmas.{begun, begun_at, cause_at, cut_at, image_at, quiet, saving_at, session_ran, shows_at, told_at, typed_at}
 use Rattle.script_commands.proofs.scripts.run_session.Goals as goal
 
@@ -29,7 +29,7 @@ returns g c =
     (told_at _ _ (g.I.ByteReader.remaining c.args.input.now) (g.I.ByteReader.remaining c.new-input.result.from.now) _ _ _ (g.H.Host.history c.args.host.now) (g.H.Host.history c.new-run.result.host.now) c.new-run.result.progress (c.run_watched-answer.ensures.told none-failed) (rw c.new-input.ensures.from refl) (rw c.new-run.ensures.host refl) (rw is-first c.args.rooms.empty))
     (shows_at _ _ shown.0 (g.I.ByteReader.remaining c.args.input.now) (g.I.ByteReader.remaining c.new-input.result.from.now) (g.I.ByteReader.remaining c.run_watched-answer.new.reader.from.now) (Some (output_text (g.H.Host.history c.run_watched-answer.new.watcher.host.now) ++ c.run_watched-answer.new.watcher.progress.lines.items)) c.run_watched-answer.result (g.H.Host.history c.args.host.now) (g.H.Host.history c.new-run.result.host.now) c.new-run.result.progress shown.1 (rw c.new-input.ensures.from refl) (rw c.new-run.ensures.host refl) (rw is-first c.args.rooms.empty))
     (cause_at c.run_watched-answer.result _ (g.I.ByteReader.remaining c.args.input.now) (g.I.ByteReader.remaining c.new-input.result.from.now) (g.I.ByteReader.remaining c.run_watched-answer.new.reader.from.now) c.run_watched-answer.ensures.cause (rw c.new-input.ensures.from refl)) c.run_watched-answer.ensures.stopped
-    (λ long. taken_more _ _ _ given (c.is_too_long.ensures long))
+    (λ long. taken_more _ _ _ given (c.is_too_long.ensures.long long)) (λ short. taken_within _ _ _ given (c.is_too_long.ensures.short short))
     c.tell_of_limit.ensures.done c.tell_of_limit.ensures.output c.tell_of_limit.ensures.progress c.tell_of_limit.ensures.cut
     c.save_last.ensures.done c.save_last.ensures.image c.into_store-store.ensures.blocks c.save_last.ensures.earlier c.save_last.ensures.fault c.save_last.ensures.output c.save_last.ensures.lines c.save_last.ensures.saving c.save_last.ensures.typed c.save_last.ensures.cut
     c.print_last.ensures.done c.print_last.ensures.image c.print_last.ensures.saving c.print_last.ensures.typed c.print_last.ensures.save_ending c.print_last.ensures.cut c.print_last.ensures.text c.print_last.ensures.waiting c.print_last.ensures.fault

@@ -1,5 +1,5 @@
-use Rattle.script_commands.proofs.RunLemmas.{limit_told}
+use Rattle.script_commands.proofs.RunLemmas.{cut_short}
 use Rattle.script_commands.proofs.scripts.tell_of_limit.Goals as goal
 
 pub returns-then-is_too_long-clause-done : goal.returns-then-is_too_long-clause-done
-returns-then-is_too_long-clause-done g c start old shown d = limit_told start old (g.H.Host.history c.args.host.now) (g.H.Host.history c.has_told_limit-progress.new.host) shown c.args.progress.now c.has_told_limit-progress.result d c.requires c.has_told_limit-progress.ensures
+returns-then-is_too_long-clause-done g c start old shown d = cut_short start old (g.H.Host.history c.args.host.now) (g.H.Host.history c.tell_limit.new.host) shown c.args.progress.now c.tell_limit.ensures.0 d c.tell_limit.ensures.1

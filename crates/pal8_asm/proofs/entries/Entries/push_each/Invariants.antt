@@ -7,9 +7,9 @@ use Rattle.pal8_asm.proofs.entries.Entries.push_each.Given as goal
 abbrev pub invariant-loop-rest : goal.invariant-loop-rest
 invariant-loop-rest l = record {
   same :
-      with_entries l.place l.at (word_each (with_values (open_of l.names) l.rest)) l.self
-      ≡ with_entries l.fn.place l.fn.spot (word_each (with_values (open_of l.fn.names) l.fn.steps)) l.fn.self;
-  field : l.at.field < 8;
+      with_entries l.at.place l.at.spot (word_each (with_values (open_of l.names) l.rest)) l.self
+      ≡ with_entries l.fn.stand.place l.fn.stand.spot (word_each (with_values (open_of l.fn.names) l.fn.steps)) l.fn.self;
+  field : l.at.spot.field < 8;
 }
 
 abbrev pub decreases-loop-rest : goal.decreases-loop-rest

@@ -6,8 +6,8 @@ use Rattle.pal8_asm.proofs.entries.Entries.push_text.Given as goal
 abbrev pub invariant-loop-rest : goal.invariant-loop-rest
 invariant-loop-rest l = record {
   same :
-      with_entries l.place l.at (text_words l.fn.options l.rest) l.self ≡ with_entries l.fn.place l.fn.spot (text_words l.fn.options l.fn.string) l.fn.self;
-  field : l.at.field < 8;
+      with_entries l.at.place l.at.spot (text_words l.fn.options l.rest) l.self ≡ with_entries l.fn.stand.place l.fn.stand.spot (text_words l.fn.options l.fn.string) l.fn.self;
+  field : l.at.spot.field < 8;
 }
 
 abbrev pub decreases-loop-rest : goal.decreases-loop-rest

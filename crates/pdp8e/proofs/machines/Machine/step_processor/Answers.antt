@@ -9,10 +9,10 @@ use Rattle.pdp8e.proofs.machines.Machine.step_processor.Goals as goal
 pub returns-clause-state : goal.returns-clause-state
 returns-clause-state c =
     let sees = subst (λ (m : Pdp8e). IsJoined m) c.self.view_is c.self.invariant.0 in
-    ap (λ (p : State8e). let m : Pdp8e = record { processor = p; disk = c.self.inside.disk } in m) c.step.ensures.state
+    ap (λ (p : State8e). let m : Pdp8e = record { processor = p; disk = c.self.inside.disk; devices = c.self.inside.devices } in m) c.step.ensures.state
     ∙ ap (λ (m : Pdp8e). with_processor m (Cpu.step m.processor).0) c.self.view_is
     ∙ sym (ap (λ (r : Pdp8e × Stepped). r.0)
-    (still_step c.args.self.now sees c.requires.still c.requires.running c.requires.other c.request_stays.ensures))
+    (still_step c.args.self.now sees c.requires.quiet c.requires.running c.requires.other c.request_stays.ensures))
 
 pub returns-clause-answer : goal.returns-clause-answer
 returns-clause-answer c =
@@ -20,4 +20,4 @@ returns-clause-answer c =
     c.step.ensures.answer
     ∙ ap (λ (m : Pdp8e). (Cpu.step m.processor).1) c.self.view_is
     ∙ sym (ap (λ (r : Pdp8e × Stepped). r.1)
-    (still_step c.args.self.now sees c.requires.still c.requires.running c.requires.other c.request_stays.ensures))
+    (still_step c.args.self.now sees c.requires.quiet c.requires.running c.requires.other c.request_stays.ensures))

@@ -47,6 +47,7 @@ pub loop-pending-init : goal.loop-pending-init
 loop-pending-init g c = record {
   told = λ first quiet. subst (λ n. IsRunTo (state_of c.args.self.now) (state_of c.args.self.now) (g.R.ByteReader.remaining c.args.reader.now) (g.R.ByteReader.remaining c.args.reader.now) (watch g.K.Watcher.contents g.K.Watcher.was_shown first c.args.watcher.now) (watch g.K.Watcher.contents g.K.Watcher.was_shown first c.args.watcher.now) n c.new-pending.result.bytes.items) (sym c.new-pending.ensures.count)
       (none_run (state_of c.args.self.now) (g.R.ByteReader.remaining c.args.reader.now) (watch g.K.Watcher.contents g.K.Watcher.was_shown first c.args.watcher.now) c.new-pending.result.bytes.items c.new-pending.ensures.bytes);
+  flushed = c.requires;
   waits = (c.new-pending.ensures.lines.0, subst (λ (l : List ℕ). WaitsForLines l c.new-pending.result.lines) (sym c.new-pending.ensures.bytes) c.new-pending.ensures.lines.1);
   taken = record { bytes = []; taken = consumes_none _; count_is = sym c.new-pending.ensures.count };
   within = omega (arith, c.new-pending.ensures.count);
@@ -101,7 +102,7 @@ returns-in_err-ends g c =
 
 pub returns-then-at_end-clause-told : goal.returns-then-at_end-clause-told
 returns-then-at_end-clause-told g c first quiet =
-    let read = at_end (g.R.ByteReader.remaining c.loop-pending.reader) (g.R.ByteReader.remaining c.read.new.reader) _ _ _ _ _ c.if-at_end.true c.in_ok-at_end.ensures.read in
+    let read = at_end (g.R.ByteReader.remaining c.loop-pending.reader) (g.R.ByteReader.remaining c.read_more.new.reader) _ _ _ _ _ c.if-at_end.true c.in_ok-at_end.ensures.read in
     let before = quiet_first _ c.loop-pending.self _ quiet c.loop-pending.invariant.later c.run_end-then-at_end.ensures.later in
     let following = quiet_second _ c.loop-pending.self _ quiet c.loop-pending.invariant.later c.run_end-then-at_end.ensures.later (c.loop-pending.invariant.running before) in
     run_over 16777216 _ (state_of c.loop-pending.self) _ _ (g.R.ByteReader.remaining c.loop-pending.reader) _ _ (watch g.K.Watcher.contents g.K.Watcher.was_shown first c.loop-pending.watcher) _ c.loop-pending.pending.count c.loop-pending.pending.bytes.items c.deref-then-at_end.result.now c.run_end-then-at_end.result
@@ -109,23 +110,23 @@ returns-then-at_end-clause-told g c first quiet =
 
 pub returns-then-at_end-clause-taken : goal.returns-then-at_end-clause-taken
 returns-then-at_end-clause-taken g c =
-    let read = at_end (g.R.ByteReader.remaining c.loop-pending.reader) (g.R.ByteReader.remaining c.read.new.reader) _ _ _ _ _ c.if-at_end.true c.in_ok-at_end.ensures.read in
+    let read = at_end (g.R.ByteReader.remaining c.loop-pending.reader) (g.R.ByteReader.remaining c.read_more.new.reader) _ _ _ _ _ c.if-at_end.true c.in_ok-at_end.ensures.read in
     (c.loop-pending.pending.count + 0, takes_more _ (g.R.ByteReader.remaining c.loop-pending.reader) _ c.loop-pending.pending.count [] c.loop-pending.invariant.taken read.0.taken, omega (arith, c.loop-pending.invariant.within), λ last. absurd (not_past c.loop-pending.pending.count c.loop-pending.invariant.within (omega (arith, last))))
 
 pub returns-in_err-run_given-clause-told : goal.returns-in_err-run_given-clause-told
 returns-in_err-run_given-clause-told g c first quiet =
     let p = err_from_is_err_and c.from_residual-in_err-run_given.result c.from_residual-in_err-run_given.ensures.1 in
-    let read = more_read (g.R.ByteReader.remaining c.loop-pending.reader) (g.R.ByteReader.remaining c.read.new.reader) _ _ _ _ _ c.if-at_end.false c.in_ok-at_end.ensures.read in
+    let read = more_read (g.R.ByteReader.remaining c.loop-pending.reader) (g.R.ByteReader.remaining c.read_more.new.reader) _ _ _ _ _ c.if-at_end.false c.in_ok-at_end.ensures.read in
     let before = quiet_first _ c.loop-pending.self _ quiet c.loop-pending.invariant.later c.run_given.ensures.later in
     let following = quiet_second _ c.loop-pending.self _ quiet c.loop-pending.invariant.later c.run_given.ensures.later (c.loop-pending.invariant.running before) in
     let fed = run_fed _ (state_of c.loop-pending.self) _ (g.R.ByteReader.remaining c.loop-pending.reader) _ _ (watch g.K.Watcher.contents g.K.Watcher.was_shown first c.loop-pending.watcher) c.loop-pending.pending.count c.loop-pending.pending.bytes.items read.0 (c.loop-pending.invariant.told first before) read.1 in
-    rw (p.1, p.2) (run_stopped 16777216 _ (state_of c.loop-pending.self) _ _ (g.R.ByteReader.remaining c.read.new.reader) _ (watch g.K.Watcher.contents g.K.Watcher.was_shown first c.loop-pending.watcher) _ (c.loop-pending.pending.count + length read.0) (c.loop-pending.pending.bytes.items ++ read.0) c.run_given.new.pending.bytes.items c.in_err-run_given.field-0.0
+    rw (p.1, p.2) (run_stopped 16777216 _ (state_of c.loop-pending.self) _ _ (g.R.ByteReader.remaining c.read_more.new.reader) _ (watch g.K.Watcher.contents g.K.Watcher.was_shown first c.loop-pending.watcher) _ (c.loop-pending.pending.count + length read.0) (c.loop-pending.pending.bytes.items ++ read.0) c.run_given.new.pending.bytes.items c.in_err-run_given.field-0.0
     fed (omega (arith, read.3, read.4))
     (subst (λ (l : List ℕ). RunsGiven l c.run_given.new.pending.bytes.items (state_of c.loop-pending.self) (state_of c.run_given.new.self) (watch g.K.Watcher.contents g.K.Watcher.was_shown first c.loop-pending.watcher) (watch g.K.Watcher.contents g.K.Watcher.was_shown first c.run_given.new.watcher) (Err c.in_err-run_given.field-0.0)) read.2 (c.in_err-run_given.ensures.told first following)))
 
 pub returns-in_err-run_given-clause-taken : goal.returns-in_err-run_given-clause-taken
 returns-in_err-run_given-clause-taken g c =
-    let read = more_read (g.R.ByteReader.remaining c.loop-pending.reader) (g.R.ByteReader.remaining c.read.new.reader) _ _ _ _ _ c.if-at_end.false c.in_ok-at_end.ensures.read in
+    let read = more_read (g.R.ByteReader.remaining c.loop-pending.reader) (g.R.ByteReader.remaining c.read_more.new.reader) _ _ _ _ _ c.if-at_end.false c.in_ok-at_end.ensures.read in
     (c.loop-pending.pending.count + length read.0, takes_more _ (g.R.ByteReader.remaining c.loop-pending.reader) _ c.loop-pending.pending.count read.0 c.loop-pending.invariant.taken read.1, omega (arith, read.3, read.4), λ last. absurd (not_past (c.loop-pending.pending.count + length read.0) (omega (arith, read.3, read.4)) last))
 
 pub returns-in_err-at_end : goal.returns-in_err-at_end
@@ -135,7 +136,7 @@ returns-in_err-at_end g c =
     record {
       told = λ first quiet. elim lost.3 [
         | inl none ↦ rw (p.1, p.2.0 none.0) (run_cut 16777216 _ _ _ (g.R.ByteReader.remaining c.loop-pending.reader) _ _ _ c.loop-pending.pending.count c.loop-pending.pending.lines c.loop-pending.pending.bytes.items [] (c.loop-pending.invariant.told first quiet) c.loop-pending.invariant.waits.0 c.loop-pending.invariant.waits.1
-            (subst (λ (l : List ℕ). Consumes (g.R.ByteReader.remaining c.loop-pending.reader) (g.R.ByteReader.remaining c.read.new.reader) l) none.1 lost.1) c.loop-pending.invariant.within (inl refl))
+            (subst (λ (l : List ℕ). Consumes (g.R.ByteReader.remaining c.loop-pending.reader) (g.R.ByteReader.remaining c.read_more.new.reader) l) none.1 lost.1) c.loop-pending.invariant.within (inl refl))
         | inr lack ↦ rw (p.1, p.2.1 lack) (run_unread 16777216 _ _ _ (g.R.ByteReader.remaining c.loop-pending.reader) _ _ _ c.loop-pending.pending.count c.loop-pending.pending.bytes.items lost.0 (c.loop-pending.invariant.told first quiet) lost.1 lost.2)
       ];
       later = c.loop-pending.invariant.later;
@@ -143,7 +144,7 @@ returns-in_err-at_end g c =
         | inl none ↦ rw (p.1) (λ is. inl (c.in_err-at_end.ensures.cause none.0))
         | inr lack ↦ rw (p.1, p.2.1 lack) (search rules)
       ];
-      reader = λ first follows. c.read.ensures.kept first (c.loop-pending.invariant.reader first follows);
+      reader = λ first follows. c.read_more.ensures.kept first (c.loop-pending.invariant.reader first follows);
       stopped = elim lost.3 [
         | inl none ↦ rw (p.1, p.2.0 none.0) (search rules)
         | inr lack ↦ rw (p.1, p.2.1 lack) (search rules)
@@ -155,23 +156,24 @@ returns-in_err-at_end g c =
 
 pub loop-pending-preserved : goal.loop-pending-preserved
 loop-pending-preserved g c =
-    let read = more_read (g.R.ByteReader.remaining c.loop-pending.reader) (g.R.ByteReader.remaining c.read.new.reader) _ _ _ _ _ c.if-at_end.false c.in_ok-at_end.ensures.read in
+    let read = more_read (g.R.ByteReader.remaining c.loop-pending.reader) (g.R.ByteReader.remaining c.read_more.new.reader) _ _ _ _ _ c.if-at_end.false c.in_ok-at_end.ensures.read in
     record {
       told = λ first quiet.
           let before = quiet_first _ c.loop-pending.self _ quiet c.loop-pending.invariant.later c.run_given.ensures.later in
           let following = quiet_second _ c.loop-pending.self _ quiet c.loop-pending.invariant.later c.run_given.ensures.later (c.loop-pending.invariant.running before) in
           let fed = run_fed _ (state_of c.loop-pending.self) _ (g.R.ByteReader.remaining c.loop-pending.reader) _ _ (watch g.K.Watcher.contents g.K.Watcher.was_shown first c.loop-pending.watcher) c.loop-pending.pending.count c.loop-pending.pending.bytes.items read.0 (c.loop-pending.invariant.told first before) read.1 in
-          subst (λ n. IsRunTo (state_of c.args.self.now) (state_of c.run_given.new.self) (g.R.ByteReader.remaining c.args.reader.now) (g.R.ByteReader.remaining c.read.new.reader) (watch g.K.Watcher.contents g.K.Watcher.was_shown first c.args.watcher.now) (watch g.K.Watcher.contents g.K.Watcher.was_shown first c.run_given.new.watcher) n c.run_given.new.pending.bytes.items)
+          subst (λ n. IsRunTo (state_of c.args.self.now) (state_of c.run_given.new.self) (g.R.ByteReader.remaining c.args.reader.now) (g.R.ByteReader.remaining c.read_more.new.reader) (watch g.K.Watcher.contents g.K.Watcher.was_shown first c.args.watcher.now) (watch g.K.Watcher.contents g.K.Watcher.was_shown first c.run_given.new.watcher) n c.run_given.new.pending.bytes.items)
           (sym (c.run_given.ensures.count ∙ read.3))
-          (run_on _ (state_of c.loop-pending.self) _ _ (g.R.ByteReader.remaining c.read.new.reader) _ (watch g.K.Watcher.contents g.K.Watcher.was_shown first c.loop-pending.watcher) _ (c.loop-pending.pending.count + length read.0) (c.loop-pending.pending.bytes.items ++ read.0) c.run_given.new.pending.bytes.items fed
+          (run_on _ (state_of c.loop-pending.self) _ _ (g.R.ByteReader.remaining c.read_more.new.reader) _ (watch g.K.Watcher.contents g.K.Watcher.was_shown first c.loop-pending.watcher) _ (c.loop-pending.pending.count + length read.0) (c.loop-pending.pending.bytes.items ++ read.0) c.run_given.new.pending.bytes.items fed
           (subst (λ (l : List ℕ). RunsGiven l c.run_given.new.pending.bytes.items (state_of c.loop-pending.self) (state_of c.run_given.new.self) (watch g.K.Watcher.contents g.K.Watcher.was_shown first c.loop-pending.watcher) (watch g.K.Watcher.contents g.K.Watcher.was_shown first c.run_given.new.watcher) (Ok tt)) read.2 (c.in_ok-run_given.ensures.told first following)));
+      flushed = c.in_ok-run_given.ensures.flushed;
       waits = c.in_ok-run_given.ensures.waits;
-      taken = subst (λ n. TakesBytes (g.R.ByteReader.remaining c.args.reader.now) (g.R.ByteReader.remaining c.read.new.reader) n) (sym (c.run_given.ensures.count ∙ read.3)) (takes_more _ (g.R.ByteReader.remaining c.loop-pending.reader) _ c.loop-pending.pending.count read.0 c.loop-pending.invariant.taken read.1);
+      taken = subst (λ n. TakesBytes (g.R.ByteReader.remaining c.args.reader.now) (g.R.ByteReader.remaining c.read_more.new.reader) n) (sym (c.run_given.ensures.count ∙ read.3)) (takes_more _ (g.R.ByteReader.remaining c.loop-pending.reader) _ c.loop-pending.pending.count read.0 c.loop-pending.invariant.taken read.1);
       within = omega (arith, c.run_given.ensures.count, read.4);
       piece = c.loop-pending.invariant.piece;
       later = later_trans _ _ _ c.loop-pending.invariant.later c.run_given.ensures.later;
       kept = λ first follows. c.run_given.ensures.kept first (c.loop-pending.invariant.kept first follows);
-      reader = λ first follows. c.read.ensures.kept first (c.loop-pending.invariant.reader first follows);
+      reader = λ first follows. c.read_more.ensures.kept first (c.loop-pending.invariant.reader first follows);
       running = λ quiet.
           let before = quiet_first _ c.loop-pending.self _ quiet c.loop-pending.invariant.later c.run_given.ensures.later in
           c.run_given.ensures.running (quiet_second _ c.loop-pending.self _ quiet c.loop-pending.invariant.later c.run_given.ensures.later (c.loop-pending.invariant.running before));

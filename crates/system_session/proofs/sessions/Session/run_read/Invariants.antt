@@ -10,6 +10,7 @@ abbrev pub invariant-loop-pending : goal.invariant-loop-pending
 invariant-loop-pending g l = record {
   told : (first : _) → NoCallFailed l.fn.self l.self → IsRunTo (state_of l.fn.self) (state_of l.self) (g.R.ByteReader.remaining l.fn.reader) (g.R.ByteReader.remaining l.reader)
       (watch g.K.Watcher.contents g.K.Watcher.was_shown first l.fn.watcher) (watch g.K.Watcher.contents g.K.Watcher.was_shown first l.watcher) l.pending.count l.pending.bytes.items;
+  flushed : g.K.Watcher.is_flushed l.watcher;
   waits : (0 < l.pending.lines) × WaitsForLines l.pending.bytes.items l.pending.lines;
   taken : TakesBytes (g.R.ByteReader.remaining l.fn.reader) (g.R.ByteReader.remaining l.reader) l.pending.count;
   within : l.pending.count ≤ 16777216;

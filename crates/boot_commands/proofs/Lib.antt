@@ -1,0 +1,3 @@
+mod KeepLemmas
+mod ReadyLemmas
+mod RoundLemmas

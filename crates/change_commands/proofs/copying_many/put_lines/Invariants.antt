@@ -1,9 +1,0 @@
-use Rattle.std.proofs.Common.{◌≡◌, ◌++◌, length}
-use Rattle.change_commands.specs.CopyingMany.{stored_lines}
-use Rattle.change_commands.proofs.copying_many.put_lines.Given as goal
-
-abbrev pub invariant-loop-rest : goal.invariant-loop-rest
-invariant-loop-rest l = l.lines.items ++ stored_lines l.rest l.left ≡ l.fn.lines.items ++ stored_lines l.files l.cuts
-
-abbrev pub decreases-loop-rest : goal.decreases-loop-rest
-decreases-loop-rest l = length l.rest

@@ -1,0 +1,5 @@
+mod OpenLemmas
+pub mod OutputLemmas
+mod SaveLemmas
+pub mod KeepLemmas
+pub mod RestoreLemmas

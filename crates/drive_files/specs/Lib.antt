@@ -1,0 +1,4 @@
+pub mod Laws
+pub mod Mounting
+pub mod Opening
+pub mod Saving

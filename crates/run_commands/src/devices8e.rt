@@ -1,0 +1,219 @@
+//! The tape in the reader of an 8/E, its clock, and the files that get what is punched and printed on the line printer.
+ghost use Rattle.std.specs.Prelude.{◌≡◌};
+ghost use Rattle.run_commands.specs.Devices8e as spec;
+ghost use Rattle.run_commands.specs.Devices8e.{EmptiesPaper, HoldsPaper, MakesPaper, OpensDevices, OpensPaper, ReadsTape, SavesPaper, SavesPapers};
+
+use drive_files::earlier;
+use hosts::{FaultClass, Held, Host, HostFault, Unwritten, hold_file};
+use image_files::{look_file, make_file, tell_reason, write_file};
+use outcome::{Content, Ending, Reason};
+use pdp8e::Machine;
+use program_tasks::DeviceForm;
+use refusals::SessionFault;
+use std::alloc::Global;
+use trace8e::{Paper, Papers};
+
+/// Where the file of a paper is held, which gets it at the end of the run.
+#[derive(Drop)]
+pub(crate) struct PaperPlace {
+    pub(crate) path: String,
+
+    /// Its name, as it was given.
+    pub(crate) name: String,
+}
+
+/// The frames of the tape in the reader, and where the files of punch and line printer are held.
+#[derive(Drop)]
+pub(crate) struct OpenDevices {
+    pub(crate) tape: Option<Vec<u8>>,
+    pub(crate) punch: Option<PaperPlace>,
+    pub(crate) printer: Option<PaperPlace>,
+}
+
+/// Reads the tape of the reader, and makes or empties the files of punch and line printer.
+pub(crate) fn open_devices<H: Host>(
+    host: &mut H,
+    alloc: Global,
+    form: &DeviceForm,
+) -> Result<OpenDevices, Ending>
+    ensures { OpensDevices form.now (H.history host.old) result (H.history host.new) }
+{
+    let tape = read_tape(host, alloc, &form.reader)?;
+    let punch = open_paper(host, alloc, &form.punch)?;
+    let printer = open_paper(host, alloc, &form.printer)?;
+    Ok(OpenDevices {
+        tape,
+        punch,
+        printer,
+    })
+}
+
+/// Reads the frames of the tape in the reader, if there is one.
+fn read_tape<H: Host>(
+    host: &mut H,
+    alloc: Global,
+    name: &Option<String>,
+) -> Result<Option<Vec<u8>>, Ending>
+    ensures { ReadsTape name.now (H.history host.old) result (H.history host.new) }
+{
+    match name {
+        None => Ok(None),
+        Some(name) => {
+            let frames = look_file(host, alloc, name.as_str())?;
+            Ok(Some(frames))
+        }
+    }
+}
+
+/// Makes or empties the file of a paper, if there is one, and holds it.
+fn open_paper<H: Host>(
+    host: &mut H,
+    alloc: Global,
+    name: &Option<String>,
+) -> Result<Option<PaperPlace>, Ending>
+    ensures { OpensPaper name.now (H.history host.old) result (H.history host.new) }
+{
+    match name {
+        None => Ok(None),
+        Some(name) => {
+            let place = empty_paper(host, alloc, name.as_str())?;
+            Ok(Some(place))
+        }
+    }
+}
+
+/// Makes or empties the file of a paper, and holds it.
+fn empty_paper<H: Host>(host: &mut H, alloc: Global, name: &str) -> Result<PaperPlace, Ending>
+    ensures { EmptiesPaper name.now (H.history host.old) result (H.history host.new) }
+{
+    let shown = String::from_str(alloc, name)?;
+    make_paper(host, alloc, name)?;
+    let held = hold_paper(host, alloc, name)?;
+    write_file(host, alloc, Content::Tape, held.path.as_str(), name, b"")?;
+    Ok(PaperPlace {
+        path: held.path,
+        name: shown,
+    })
+}
+
+/// Makes an empty file, where there is none of the name.
+fn make_paper<H: Host>(host: &mut H, alloc: Global, name: &str) -> Result<(), Ending>
+    ensures { MakesPaper name.now (H.history host.old) result (H.history host.new) }
+{
+    if host.is_there(name) {
+        return Ok(());
+    }
+    make_file(host, alloc, Content::Tape, name, b"")
+}
+
+/// Holds the file of a paper. Why it can't be held is printed.
+fn hold_paper<H: Host>(host: &mut H, alloc: Global, name: &str) -> Result<Held, Ending>
+    ensures { HoldsPaper name.now (H.history host.old) result (H.history host.new) }
+{
+    match hold_file(host, alloc, name) {
+        Ok(held) => Ok(held),
+        Err(fault) => {
+            tell_reason(host, alloc, name, Reason::Fault(fault));
+            Err(ending_of_paper(fault))
+        }
+    }
+}
+
+/// How a command ends if the file of a paper can't be held.
+fn ending_of_paper(fault: HostFault) -> Ending
+    ensures { result ≡ spec.ending_of_paper fault }
+{
+    match fault.class() {
+        FaultClass::Busy => Ending::Busy(Content::Tape),
+        FaultClass::Memory => Ending::Fault(SessionFault::Memory),
+        FaultClass::Other => Ending::NotWritten(Content::Tape, Unwritten::AsItWas),
+    }
+}
+
+/// Puts tape, paper and clock into a machine, each if there is one. The answer is where the files of punch and line printer are held.
+pub(crate) fn put_devices(
+    machine: &mut Machine,
+    form: &DeviceForm,
+    devices: OpenDevices,
+) -> (Option<PaperPlace>, Option<PaperPlace>)
+    ensures machine { machine.new ≡ spec.with_devices machine.old form.now devices }
+    ensures punch { result.0 ≡ devices.punch }
+    ensures printer { result.1 ≡ devices.printer }
+{
+    let OpenDevices {
+        tape,
+        punch,
+        printer,
+    } = devices;
+    if let Some(frames) = tape {
+        machine.put_tape(frames);
+    }
+    if form.printer.is_some() {
+        machine.put_paper();
+    }
+    if let Some(period) = form.clock {
+        machine.put_clock(period);
+    }
+    (punch, printer)
+}
+
+/// Empty papers for punch and line printer, which keep what is put on them where a file gets it.
+pub(crate) fn new_papers(
+    alloc: Global,
+    punch: &Option<PaperPlace>,
+    printer: &Option<PaperPlace>,
+) -> Papers
+    ensures { result ≡ spec.new_papers punch.now printer.now }
+{
+    Papers {
+        punch: Paper::new(alloc, punch.is_some()),
+        printer: Paper::new(alloc, printer.is_some()),
+    }
+}
+
+/// Has the files of punch and line printer hold what was put on paper. Where one can't be written the other is. The answer is why the first
+/// was not.
+pub(crate) fn save_papers<H: Host>(
+    host: &mut H,
+    alloc: Global,
+    papers: &Papers,
+    punch: &Option<PaperPlace>,
+    printer: &Option<PaperPlace>,
+) -> Result<(), Ending>
+    ensures { SavesPapers papers.now punch.now printer.now (H.history host.old) result (H.history host.new) }
+{
+    let first = save_paper(host, alloc, &papers.punch, punch);
+    let second = save_paper(host, alloc, &papers.printer, printer);
+    earlier(first, second)
+}
+
+/// Has the file of a paper hold what was put on it, if there is a file. Where memory was wanted for some of it, the file holds what was put on
+/// it before.
+fn save_paper<H: Host>(
+    host: &mut H,
+    alloc: Global,
+    paper: &Paper,
+    place: &Option<PaperPlace>,
+) -> Result<(), Ending>
+    ensures { SavesPaper paper.now place.now (H.history host.old) result (H.history host.new) }
+{
+    match place {
+        None => Ok(()),
+        Some(place) => {
+            let (path, name) = (place.path.as_str(), place.name.as_str());
+            let written = write_file(host, alloc, Content::Tape, path, name, paper.bytes());
+            earlier(written, whole_end(paper.is_whole()))
+        }
+    }
+}
+
+/// How a command ends by a paper that is whole, or not.
+fn whole_end(is_whole: bool) -> Result<(), Ending>
+    ensures { result ≡ spec.whole_end is_whole }
+{
+    if is_whole {
+        Ok(())
+    } else {
+        Err(Ending::Fault(SessionFault::Memory))
+    }
+}

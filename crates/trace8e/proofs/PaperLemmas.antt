@@ -1,0 +1,82 @@
+-- What the steps of a run write on paper.
+use Rattle.std.proofs.Common.{◌≡◌, ℕ, zero, suc, ◌+◌, Bool, true, false, if◌then◌else◌, List, [], ◌++◌, append-nil, append_assoc, add-one, refl, ap, sym, subst, ◌∙◌}
+use Rattle.pdp8e.specs.State.{Pdp8e}
+use Rattle.pdp8e.specs.Terminal.{Terminal, later, next, after_step}
+use Rattle.trace8e.proofs.RunLemmas.{later-next, later-none}
+use Rattle.trace8e.specs.PaperSteps.{GetStep}
+use Rattle.trace8e.specs.Papers.{PaperState, PapersState, GetsBytes, GetSteps, GetSome, frame_in, character_in, frames_of, characters_of}
+
+frames-none : (t : Terminal) → frames_of 0 t ≡ []
+unfolding frames_of
+frames-none t = refl
+
+characters-none : (t : Terminal) → characters_of 0 t ≡ []
+unfolding characters_of
+characters-none t = refl
+
+frames-next : (k : ℕ) (t : Terminal) → frames_of (k + 1) t ≡ frames_of k t ++ frame_in (after_step (later k t)).0
+unfolding frames_of
+frames-next k t = rw add-one refl
+
+characters-next : (k : ℕ) (t : Terminal) → characters_of (k + 1) t ≡ characters_of k t ++ character_in (after_step (later k t)).0
+unfolding characters_of
+characters-next k t = rw add-one refl
+
+nothing : (kept : Bool) (bytes : List ℕ) → bytes ≡ bytes ++ (if kept then [] else [])
+nothing true bytes = sym (append-nil bytes)
+nothing false bytes = sym (append-nil bytes)
+
+gets-none : (p : PaperState) (bytes : List ℕ) → bytes ≡ [] → GetsBytes p p bytes
+gets-none p bytes none =
+    subst (λ (l : List ℕ). GetsBytes p p l) (sym none) (record { kept = refl; sooner = λ whole. whole; all = λ whole. nothing p.kept p.bytes })
+
+both : (kept : Bool) (own a b : List ℕ) → (own ++ (if kept then a else [])) ++ (if kept then b else []) ≡ own ++ (if kept then a ++ b else [])
+both true own a b = append_assoc own a b
+both false own a b = append-nil (own ++ [])
+
+gets-more : (p p' p'' : PaperState) (a b c : List ℕ) → GetsBytes p p' a → GetsBytes p' p'' b → c ≡ a ++ b → GetsBytes p p'' c
+gets-more p p' p'' a b c first second is =
+    subst (λ (l : List ℕ). GetsBytes p p'' l) (sym is) (record {
+      kept = second.kept ∙ first.kept;
+      sooner = λ whole. first.sooner (second.sooner whole);
+      all = λ whole.
+          second.all whole
+          ∙ ap (λ (k : Bool). p'.bytes ++ (if k then b else [])) first.kept
+          ∙ ap (λ (l : List ℕ). l ++ (if p.kept then b else [])) (first.all (second.sooner whole))
+          ∙ both p.kept p.bytes a b;
+    })
+
+-- ## Runs
+
+pub no-steps : (t : Terminal) (p : PapersState) → GetSteps 0 t p p
+no-steps t p = record {
+  punch = gets-none p.punch (frames_of 0 t) (frames-none t);
+  printer = gets-none p.printer (characters_of 0 t) (characters-none t);
+}
+
+pub more-steps : (t t' t'' : Terminal) (m : Pdp8e) (p p' p'' : PapersState) (made : ℕ) → GetSteps made t p p' → t' ≡ later made t → t'' ≡ next t' → m ≡ t''.machine
+    → GetStep p' p'' m → GetSteps (made + 1) t p p''
+more-steps t t' t'' m p p' p'' made before at step left last =
+    let after : m ≡ (after_step (later made t)).0 =
+    left ∙ ap (λ (x : Terminal). x.machine) step ∙ ap (λ (x : Terminal). (after_step x).0) at in
+    record {
+      punch = gets-more p.punch p'.punch p''.punch (frames_of made t) (frame_in m) (frames_of (made + 1) t) before.punch last.punch
+          (frames-next made t ∙ ap (λ (x : Pdp8e). frames_of made t ++ frame_in x) (sym after));
+      printer = gets-more p.printer p'.printer p''.printer (characters_of made t) (character_in m) (characters_of (made + 1) t) before.printer last.printer
+          (characters-next made t ∙ ap (λ (x : Pdp8e). characters_of made t ++ character_in x) (sym after));
+    }
+
+-- the terminal stands after these steps
+pub some-steps : (t t' : Terminal) (p p' : PapersState) (steps : ℕ) → t' ≡ later steps t → GetSteps steps t p p' → GetSome t t' p p'
+some-steps t t' p p' steps at are = record { steps = steps; terminal = at; papers = are }
+
+pub some-none : (t : Terminal) (p : PapersState) → GetSome t t p p
+some-none t p = some-steps t t p p 0 (sym (later-none t)) (no-steps t p)
+
+pub some-more : (t t' t'' : Terminal) (m : Pdp8e) (p p' p'' : PapersState) (made : ℕ) → GetSteps made t p p' → t' ≡ later made t → t'' ≡ next t' → m ≡ t''.machine
+    → GetStep p' p'' m → GetSome t t'' p p''
+some-more t t' t'' m p p' p'' made before at step left last =
+    some-steps t t'' p p'' (made + 1) (step ∙ ap (λ (x : Terminal). next x) at ∙ sym (later-next made t)) (more-steps t t' t'' m p p' p'' made before at step left last)
+
+pub all-steps : (t : Terminal) (p p' : PapersState) (made n : ℕ) → made ≡ n → GetSteps made t p p' → GetSteps n t p p'
+all-steps t p p' made n is are = subst (λ (k : ℕ). GetSteps k t p p') is are

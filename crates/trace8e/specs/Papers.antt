@@ -1,0 +1,60 @@
+-- What a run of the 8/E puts on paper: the frames that its steps punch, and the characters that they print on the line printer.
+use Rattle.std.specs.Prelude.{◌≡◌, ℕ, zero, suc, Bool, true, if◌then◌else◌, option_to_list, List, [], ◌++◌, Result, Ok, Err}
+use Rattle.pdp8e.specs.State.{Pdp8e}
+use Rattle.pdp8e.specs.Terminal.{Terminal, later, after_step}
+use Rattle.terminal8.specs.declared.outcomes.Ended.{Ended}
+use Rattle.trace8.specs.declared.faults.TraceFault.{TraceFault}
+
+pub record PaperState : Type 0 where
+  -- what is put on it is kept; else it is dropped
+  pub kept : Bool
+  pub bytes : List ℕ
+  -- no byte was lost for want of memory
+  pub whole : Bool
+
+pub record PapersState : Type 0 where
+  pub punch : PaperState
+  pub printer : PaperState
+
+-- a new paper is empty
+abbrev pub new_paper : Bool → PaperState
+new_paper kept = record { kept = kept; bytes = []; whole = true }
+
+-- the frame that a step punched, and the character that it printed on the line printer, if it did
+abbrev pub frame_in : Pdp8e → List ℕ
+frame_in m = option_to_list m.devices.punch.writing
+
+abbrev pub character_in : Pdp8e → List ℕ
+character_in m = option_to_list m.devices.printer.writing
+
+-- the frames of so many steps, in their order
+unfoldable pub frames_of : ℕ → Terminal → List ℕ
+frames_of zero t = []
+frames_of (suc k) t = frames_of k t ++ frame_in (after_step (later k t)).0
+
+-- and the characters
+unfoldable pub characters_of : ℕ → Terminal → List ℕ
+characters_of zero t = []
+characters_of (suc k) t = characters_of k t ++ character_in (after_step (later k t)).0
+
+-- A paper got these bytes after its own, where it keeps any and none was lost.
+pub record GetsBytes (old new : PaperState) (bytes : List ℕ) : Type 0 where
+  pub kept : new.kept ≡ old.kept
+  pub sooner : new.whole ≡ true → old.whole ≡ true
+  pub all : new.whole ≡ true → new.bytes ≡ old.bytes ++ (if old.kept then bytes else [])
+
+-- Punch and line printer got what so many steps of a terminal wrote.
+pub record GetSteps (steps : ℕ) (t : Terminal) (old new : PapersState) : Type 0 where
+  pub punch : GetsBytes old.punch new.punch (frames_of steps t)
+  pub printer : GetsBytes old.printer new.printer (characters_of steps t)
+
+-- The terminal stands after so many steps, and they got what these wrote.
+pub record GetSome (t t' : Terminal) (old new : PapersState) : Type 0 where
+  pub steps : ℕ
+  pub terminal : t' ≡ later steps t
+  pub papers : GetSteps steps t old new
+
+-- They got what the steps of a trace wrote, however it ended.
+abbrev pub GetTraced : Terminal → Terminal → PapersState → PapersState → Result Ended TraceFault → Type 0
+GetTraced t t' old new (Ok ended) = GetSteps ended.steps t old new
+GetTraced t t' old new (Err fault) = GetSome t t' old new

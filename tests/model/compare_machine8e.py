@@ -1,0 +1,141 @@
+#!/usr/bin/env python3
+"""compare_machine8e.py [--program FILE] [--runs N] [--seed S]: makes N random programs of an 8/E with disks, a reader, a punch, a line printer and a
+clock, 300 where nothing is said. It traces each with the program and in the plain model. The lines of their steps must be the same but for the spelled
+instructions, and so must be what punch, line printer and disks have at the end. The same number is the same programs each time. The last line is
+'N passed, M failed'.
+"""
+import argparse
+import copy
+import functools
+import os
+import subprocess
+import sys
+import tempfile
+from random import Random
+
+sys.dont_write_bytecode = True
+TOP = os.path.dirname(os.path.dirname(os.path.dirname(os.path.abspath(__file__))))
+sys.path.insert(0, TOP)
+from tests.model.devices8e import FullMachine8e
+from tests.model.machine8e import Drive
+from tests.model.programs8e import file_of, images, program
+from tests.model.tape import tape_of
+from tests.model.traces import changed_cells, character
+from tests.model.words import octal
+from tests.options import patience
+from tests.tally import Tally, fault_in
+
+START, STEPS, KSF = 0o200, 300, 0o6031
+DEVICES = [0o6010, 0o6020, 0o6130, 0o6660]
+
+
+class Case:
+    """A random program, and what its machine has."""
+
+    def __init__(self, random: Random) -> None:
+        self.words = program(random)
+        if random.random() < 0.5:
+            for cell in self.words:
+                if cell >= START and self.words[cell] >> 9 != 0o5 and random.random() < 0.35:
+                    self.words[cell] = random.choice(DEVICES) + random.randrange(8)
+        self.frames = [random.randrange(256) for _ in range(random.randrange(5))]
+        self.period = random.choice([None, 1, 2, 3, 5, 7, 40, 1000])
+        self.has_paper = random.random() < 0.5
+        self.images = images(random)
+        self.times = random.choice([(10, 10), (0, 0), (3, 1), (25, 2)])
+
+    def machine(self) -> FullMachine8e:
+        machine = FullMachine8e()
+        for cell, word in self.words.items():
+            machine.core[cell] = word
+        machine.drives = [Drive(copy.deepcopy(it)) for it in self.images]
+        machine.start(START)
+        machine.tape, machine.period, machine.has_paper = list(self.frames), self.period, self.has_paper
+        machine.disk_time, machine.seek_time = self.times
+        return machine
+
+    def files(self) -> dict[str, bytes]:
+        """The files that the program is given."""
+        disks = {f"D{number}": file_of(it) for number, it in enumerate(self.images) if it is not None}
+        return {"TAPE": bytes(tape_of(list(self.words.items()))), "READER": bytes(self.frames), **disks}
+
+    def options(self) -> list[str]:
+        disks = [word for number, it in enumerate(self.images) if it is not None for word in (f"--rk{number}", f"D{number}")]
+        paper = ["--printer", "PRINTER"] if self.has_paper else []
+        clock = ["--clock", str(self.period)] if self.period else []
+        times = ["--disk-time", str(self.times[0]), "--seek-time", str(self.times[1])]
+        return ["--cpu", "8e", "--start", "200", "--steps", str(STEPS), "--reader", "READER", "--punch", "PUNCH", *paper, *clock, *disks, *times]
+
+    def wanted_files(self, machine: FullMachine8e) -> dict[str, bytes]:
+        """What the files hold that a run may change."""
+        disks = {f"D{number}": file_of(it.sectors) for number, it in enumerate(machine.drives) if it.sectors is not None}
+        return {"PUNCH": bytes(machine.punched), **({"PRINTER": bytes(machine.lined)} if self.has_paper else {}), **disks}
+
+
+def line_of(machine: FullMachine8e, cell: int, word: int, before: list[int]) -> str:
+    """The line of a step without its spelled instruction."""
+    said = "INTERRUPT" if machine.is_interrupt else f"{octal(cell, 5)} {octal(word, 4)}"
+    said += f"\tAC {octal(machine.ac, 4)} L {machine.link} MQ {octal(machine.mq, 4)}"
+    for changed in changed_cells(before, machine.core, cell, word, machine.is_interrupt):
+        said += f"\t{octal(changed, 5)} {octal(machine.core[changed], 4)}"
+    said += "".join("\t" + character(it) for it in machine.printed)
+    machine.printed.clear()
+    return said
+
+
+def lines_of(machine: FullMachine8e, steps: int) -> list[str]:
+    """The lines of so many steps, in which no key is struck, and of the end after them."""
+    lines, why = list[str](), None
+    for _ in range(steps):
+        machine.begin()
+        before, cell = list(machine.core), machine.here
+        moves, word = list(machine.moves), machine.core[cell]
+        why = machine.step()
+        lines += [*moves, line_of(machine, cell, word, before)]
+    ends = why or ("KEYS" if steps < STEPS and machine.core[machine.here] == KSF else "LIMIT")
+    return [*lines, f"STEPS {steps} {ends} {octal(machine.here, 5)}"]
+
+
+def plain(line: str) -> str:
+    """A line of a trace without the spelled instruction."""
+    first, *others = line.split("\t")
+    return "\t".join([first, *(others if first == "INTERRUPT" else others[1:])])
+
+
+def compared(program: str, seed: int) -> str:
+    """What is wrong with the trace of a random program."""
+    case = Case(Random(seed))
+    with tempfile.TemporaryDirectory(prefix="pdp8-machine8e-") as folder:
+        for name, data in case.files().items():
+            with open(f"{folder}/{name}", "wb") as file:
+                file.write(data)
+        done = subprocess.run([program, "trace", "TAPE", *case.options()], cwd=folder, stdin=subprocess.DEVNULL, capture_output=True, timeout=patience(120))
+        got = [plain(it) for it in done.stdout.decode("latin1").splitlines()]
+        if done.returncode or done.stderr or not got or not got[-1].startswith("STEPS "):
+            return f"seed {seed}: the status is {done.returncode}, and standard error has {done.stderr[:200]!r}"
+        machine = case.machine()
+        wanted = lines_of(machine, min(STEPS, int(got[-1].split()[1])))
+        if got != wanted:
+            at = next((it for it, pair in enumerate(zip(got, wanted)) if pair[0] != pair[1]), min(len(got), len(wanted)))
+            return f"seed {seed}, line {at + 1}: {got[at : at + 1]}, not {wanted[at : at + 1]}"
+        for name, data in case.wanted_files(machine).items():
+            with open(f"{folder}/{name}", "rb") as file:
+                if file.read() != data:
+                    return f"seed {seed}: {name} has other bytes"
+    return ""
+
+
+def main() -> int:
+    parser = argparse.ArgumentParser()
+    parser.add_argument("--program", default=f"{TOP}/target/unproved/pdp8/pdp8")
+    parser.add_argument("--runs", type=int, default=300)
+    parser.add_argument("--seed", type=int, default=1)
+    options = parser.parse_args()
+    tally = Tally()
+    for seed in range(options.seed, options.seed + options.runs):
+        tally.add("traces", fault_in(functools.partial(compared, os.path.abspath(options.program), seed)))
+    return tally.end()
+
+
+if __name__ == "__main__":
+    sys.exit(main())
