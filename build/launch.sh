@@ -1,5 +1,5 @@
 # launch PROGRAM WORD..: runs the program in place of this shell; but at a terminal `teletype` and `boot` run below it, and get each key as it is
-# struck. The terminal is as it was at every end, also where this shell or the program is killed. A `boot` that is ended saves its disks.
+# struck. The terminal is as it was at every end, also where this shell or the program is killed. A run with disks that is ended saves them.
 launch() {
     if [[ ${2-} == @(teletype|boot) && " $* " != *" --help "* && " $* " != *" -h "* ]] && [ -t 0 ] && saved=$(stty -g); then
         at_terminal "$@"
@@ -11,7 +11,7 @@ at_terminal() {
     local program=$1 command=$2 child='' ended='' room='' status
     local -a more=()
     shift 2
-    if [ "$command" = boot ]; then
+    if [[ $command == boot || " $*" == *" --rk"[0-3]* ]]; then
         # once there is a file `end` in this folder the program saves its disks and ends
         room=$(mktemp -d) || exit
         more=(--ends-with "$room/end")

@@ -29,7 +29,6 @@ ALONE = {
     "program_laws": "laws over all tasks of the program",
     "monitor8": "the public calls of the program",
     "salvage_commands": "the room of rescue and scan",
-    "boot_commands": "the room of boot",
 }
 
 

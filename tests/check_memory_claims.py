@@ -54,7 +54,7 @@ PLACES: dict[str, dict[str, dict[str, str]]] = {
         },
     },
     "run_commands/src/devices8e.rt": {
-        "whole_end": {
+        "paper_end": {
             "Err(Ending::Fault(SessionFault::Memory))": "a paper that isn't whole lacks what memory was wanted for, and the run's end says so",
         },
     },

@@ -232,12 +232,12 @@ fn copied_lines<H: Host>(
 ) -> Result<Vec<u8>, Ending>
     ensures { TellsCopies form.now from.now files.now image.now.bytes.items (H.history host.old) result (H.history host.new) }
 {
-    let cuts = cuts_of(host, alloc, from, files, &image.bytes)?;
+    let cuts = find_cuts(host, alloc, from, files, &image.bytes)?;
     lines_of(alloc, new_name(&form.files), files, &cuts)
 }
 
 /// Whether the copies of files lack information words of them.
-fn cuts_of<H: Host>(
+fn find_cuts<H: Host>(
     host: &mut H,
     alloc: Global,
     from: &[u8],

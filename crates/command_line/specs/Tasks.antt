@@ -12,6 +12,7 @@ use Rattle.disk_layouts.specs.declared.layouts.Layout.{Layout}
 use Rattle.program_tasks.specs.Names.{volume_named}
 use Rattle.program_tasks.specs.declared.archives.LineForm.{LineForm}
 use Rattle.program_tasks.specs.declared.archives.LineForm.TheVariants.{Columns, Json}
+use Rattle.program_tasks.specs.declared.boots.ConsoleForm.{ConsoleForm}
 use Rattle.program_tasks.specs.declared.boots.DiskForm.{DiskForm}
 use Rattle.program_tasks.specs.declared.boots.DriveForm.{DriveForm}
 use Rattle.program_tasks.specs.declared.devices.DeviceForm.{DeviceForm}
@@ -112,6 +113,18 @@ IsDisk id values form = IsDrive id (codes "0") values form.drive0
 -- the times of a disk are 0 to 1000000
 abbrev pub AreFitTimes : DiskForm → Type 0
 AreFitTimes form = (form.disk_time ≤ 1000000) × (form.seek_time ≤ 1000000)
+
+-- how a machine runs at the console, the disk of drive 0 by this argument
+abbrev pub IsConsole : Text → List Row → ConsoleForm → Type 0
+IsConsole id values form = IsDisk id values form.disk
+    × IsReadAs word_of (first_of (codes "switches") values) form.switches
+    × (option_map number_of (one_of (codes "steps") values) ≡ form.steps) × (form.every ≡ time_or 1000000 (codes "every") values)
+    × (first_of (codes "ends-with") values ≡ option_map (λ name. name.bytes.items) form.ends_with) × (form.has_capitals ≡ is_set (codes "capitals") values)
+    × (form.is_raw ≡ is_set (codes "raw") values) × (form.is_live ≡ is_set (codes "live") values)
+
+-- its limit of instructions is 1 up, and its times and the instructions between saves are 0 to 1000000
+abbrev pub AreFitLimits : ConsoleForm → Type 0
+AreFitLimits form = IfSome form.steps (λ steps. 1 ≤ steps) × AreFitTimes form.disk × (form.every ≤ 1000000)
 
 -- the tape in the reader, the files of punch and line printer, and the clock
 abbrev pub AreDevices : List Row → DeviceForm → Type 0
@@ -293,17 +306,10 @@ AsksFor which values (Assemble form) = (which ≡ verb.Assemble) × (source_name
     × (form.has_notes ≡ is_set (codes "notes") values)
 AsksFor which values (Teletype form) = (which ≡ verb.Teletype) × IsTape values form.tape
     × (form.cpu ≡ cpu_of values)
-    × IsReadAs cell_of (first_of (codes "start") values) form.start
-    × IsReadAs word_of (first_of (codes "switches") values) form.switches
-    × (option_map number_of (one_of (codes "steps") values) ≡ form.steps)
-    × (form.is_raw ≡ is_set (codes "raw") values) × (form.is_live ≡ is_set (codes "live") values)
+    × IsReadAs cell_of (first_of (codes "start") values) form.start × IsConsole (codes "rk0") values form.console
 AsksFor which values (Trace form) = (which ≡ verb.Trace) × IsTraceForm values form
 AsksFor which values (Profile form) = (which ≡ verb.Profile) × IsTraceForm values form
-AsksFor which values (Boot form) = (which ≡ verb.Boot) × IsDisk (codes "IMAGE") values form.disk
-    × IsReadAs word_of (first_of (codes "switches") values) form.switches
-    × (option_map number_of (one_of (codes "steps") values) ≡ form.steps) × (form.every ≡ time_or 1000000 (codes "every") values)
-    × (first_of (codes "ends-with") values ≡ option_map (λ name. name.bytes.items) form.ends_with) × (form.has_capitals ≡ is_set (codes "capitals") values)
-    × (form.is_raw ≡ is_set (codes "raw") values) × (form.is_live ≡ is_set (codes "live") values)
+AsksFor which values (Boot form) = (which ≡ verb.Boot) × IsConsole (codes "IMAGE") values form
 
 -- and its arguments are not refused
 abbrev pub AsksOf : Option Entry → List Row → Task → Type 0
@@ -334,10 +340,10 @@ HasFitBlocks (Index form) = (1 ≤ length form.images.items) × (length form.ima
 HasFitBlocks (Assemble form) = (1 ≤ length form.sources.items) × (length form.sources.items ≤ MOST_SOURCES)
     × (form.from ≡ None → input_count (map (λ file. file.bytes.items) form.sources.items) ≤ 1)
     × (form.is_cross ≡ true → is_some form.list ≡ true) × (is_some form.onto ≡ true → is_some form.from ≡ true)
-HasFitBlocks (Teletype form) = IfSome form.steps (λ steps. 1 ≤ steps)
+HasFitBlocks (Teletype form) = AreFitLimits form.console
 HasFitBlocks (Trace form) = IfSome form.steps (λ steps. 1 ≤ steps) × AreFitTimes form.disk
 HasFitBlocks (Profile form) = IfSome form.steps (λ steps. 1 ≤ steps) × AreFitTimes form.disk
-HasFitBlocks (Boot form) = IfSome form.steps (λ steps. 1 ≤ steps) × AreFitTimes form.disk × (form.every ≤ 1000000)
+HasFitBlocks (Boot form) = AreFitLimits form
 HasFitBlocks task = ⊤
 
 -- The answer to the command line with these words, the program's own name first. It is a task where `clap` finds no fault in the words and they

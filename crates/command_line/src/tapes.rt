@@ -10,7 +10,7 @@ ghost use Rattle.command_table.specs.declared.table.Kind.TheVariants as kind;
 ghost use Rattle.command_line.specs.Tasks as spec;
 ghost use Rattle.command_table.specs.declared.table.Verb.TheVariants as verb;
 
-use crate::boots::disk_of;
+use crate::boots::{console_of, disk_of};
 use crate::devices::devices_of;
 use crate::volumes::{changed_image, image_of};
 use clap::ArgMatches;
@@ -181,14 +181,13 @@ pub fn teletype(alloc: Global, found: &ArgMatches<'_>) -> Read<Task>
     requires { Needs verb.Teletype (values_in found.now) }
     ensures { IfOk result (IsAskedBy verb.Teletype (values_in found.now)) }
 {
+    let tape = tape_of(alloc, found, Verb::Teletype)?;
+    let console = console_of(alloc, found, Verb::Teletype, "rk0")?;
     Ok(Task::Teletype(TeletypeForm {
-        tape: tape_of(alloc, found, Verb::Teletype)?,
+        tape,
         cpu: cpu_of(found, Verb::Teletype),
         start: cell_of(found, Verb::Teletype, "start"),
-        switches: octal_of(found, Verb::Teletype, "switches"),
-        steps: count_of(found, Verb::Teletype, "steps"),
-        is_raw: flag(found, Verb::Teletype, "raw"),
-        is_live: flag(found, Verb::Teletype, "live"),
+        console,
     }))
 }
 

@@ -164,6 +164,14 @@ names_disk values = has (codes "rk0") values || has (codes "rk1") values || has 
 abbrev pub says_of_disk : List Row → Bool
 says_of_disk values = names_disk values || has (codes "lock") values || is_set (codes "look") values || has (codes "disk-time") values || has (codes "seek-time") values
 
+-- something is said of an 8/E at the console
+abbrev pub says_of_console : List Row → Bool
+says_of_console values = says_of_disk values || has (codes "every") values || is_set (codes "capitals") values
+
+-- something is said of reader, punch, line printer or clock of an 8/E
+abbrev pub says_of_devices : List Row → Bool
+says_of_devices values = has (codes "reader") values || has (codes "punch") values || has (codes "printer") values || has (codes "clock") values
+
 -- the machine is an 8/E
 abbrev pub is_8e : Option Text → Bool
 is_8e None = false
@@ -172,7 +180,12 @@ is_8e (Some name) = bytes_eq name (codes "8e")
 -- of the file of a program whose steps are printed or counted, or the machine of which something is said
 abbrev pub steps_missing : List Row → Option What
 steps_missing values =
-    if says_of_disk values && not (is_8e (first_of (codes "cpu") values)) then Some what.Cpu else tape_missing values
+    if (says_of_disk values || says_of_devices values) && not (is_8e (first_of (codes "cpu") values)) then Some what.Cpu else tape_missing values
+
+-- and of that of a program at the Teletype
+abbrev pub run_missing : List Row → Option What
+run_missing values =
+    if says_of_console values && not (is_8e (first_of (codes "cpu") values)) then Some what.Cpu else tape_missing values
 
 -- something is said of the volume that has the sources
 abbrev pub says_of_volume : List Row → Bool
@@ -207,7 +220,7 @@ abbrev pub missing_of : Verb → List Row → Option What
 missing_of verb.Tape values = tape_missing values
 missing_of verb.Rim values = tape_missing values
 missing_of verb.Source values = tape_missing values
-missing_of verb.Teletype values = tape_missing values
+missing_of verb.Teletype values = run_missing values
 missing_of verb.Trace values = steps_missing values
 missing_of verb.Profile values = steps_missing values
 missing_of verb.Assemble values = assemble_missing values

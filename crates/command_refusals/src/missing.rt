@@ -24,7 +24,7 @@ pub fn missing_of(found: &ArgMatches<'_>, which: Verb) -> Option<What>
         Verb::Rename => moved_missing(found, "NEW", What::New, What::NameAndNew),
         Verb::Copy => copy_missing(found),
         Verb::Tape | Verb::Rim | Verb::Source => tape_missing(found),
-        Verb::Teletype => tape_missing(found),
+        Verb::Teletype => run_missing(found),
         Verb::Trace | Verb::Profile => steps_missing(found),
         Verb::Boot | Verb::Run | Verb::List | Verb::Squeeze | Verb::Check => None,
         Verb::Dump | Verb::Patch | Verb::Index | Verb::Rescue | Verb::Scan => None,
@@ -71,11 +71,21 @@ fn tape_missing(found: &ArgMatches<'_>) -> Option<What>
     Some(What::TapeAndName)
 }
 
+/// What is missing where a program runs at the Teletype: of its file, or the machine of which something is said.
+fn run_missing(found: &ArgMatches<'_>) -> Option<What>
+    ensures { result ≡ spec.run_missing (values_in found.now) }
+{
+    if says_of_console(found) && !is_8e(text_of(found, "cpu")) {
+        return Some(What::Cpu);
+    }
+    tape_missing(found)
+}
+
 /// What is missing where the steps of a program are printed or counted: of its file, or the machine of which something is said.
 fn steps_missing(found: &ArgMatches<'_>) -> Option<What>
     ensures { result ≡ spec.steps_missing (values_in found.now) }
 {
-    if says_of_disk(found) && !is_8e(text_of(found, "cpu")) {
+    if (says_of_disk(found) || says_of_devices(found)) && !is_8e(text_of(found, "cpu")) {
         return Some(What::Cpu);
     }
     tape_missing(found)
@@ -89,6 +99,20 @@ fn is_8e(name: Option<&str>) -> bool
         None => false,
         Some(name) => name == "8e",
     }
+}
+
+/// Whether something is said of an 8/E at the console.
+fn says_of_console(found: &ArgMatches<'_>) -> bool
+    ensures { result ≡ spec.says_of_console (values_in found.now) }
+{
+    says_of_disk(found) || has(found, "every") || is_set(found, "capitals")
+}
+
+/// Whether something is said of reader, punch, line printer or clock of an 8/E.
+fn says_of_devices(found: &ArgMatches<'_>) -> bool
+    ensures { result ≡ spec.says_of_devices (values_in found.now) }
+{
+    has(found, "reader") || has(found, "punch") || has(found, "printer") || has(found, "clock")
 }
 
 /// Whether something is said of the disk of an 8/E.

@@ -83,6 +83,17 @@ pub const TELETYPE: &[Argument] = rows! {
     "steps" option Kind::Count, "N", "The most instructions that are done, 1 up; without it there is no limit";
     "raw" flag Kind::Flag, "", "Strike each byte as it is, with no change of line ends and no top bit set";
     "live" hidden Kind::Flag, "", "Take the keys as they are struck";
+    "rk0" option Kind::One(Form::Text), "IMAGE", "With --cpu 8e the file of the RK05 disk in drive 0";
+    "rk1" option Kind::One(Form::Text), "IMAGE", "The file of the disk in drive 1";
+    "rk2" option Kind::One(Form::Text), "IMAGE", "The file of the disk in drive 2";
+    "rk3" option Kind::One(Form::Text), "IMAGE", "The file of the disk in drive 3";
+    "lock" option Kind::Many(Form::Drive), "DRIVE", "Lock a drive, 0 to 3, so that nothing is written to its disk; may be given for each drive";
+    "look" flag Kind::Flag, "", "Write no file: what is written to a disk is gone at the end";
+    "disk-time" option Kind::One(Form::Time), "N", "The instructions of a transfer beside its seek, 0 to 1000000; else 10";
+    "seek-time" option Kind::One(Form::Time), "N", "The instructions that an arm takes for each cylinder, 0 to 1000000; else 10";
+    "every" option Kind::One(Form::Time), "N", "Save changed disks while a key is waited for, N instructions or more after the last save, 0 to 1000000; else 1000000, and 0 is for never";
+    "ends-with" hidden Kind::One(Form::Text), "FILE", "End the run once there is a file FILE";
+    "capitals" flag Kind::Flag, "", "With --cpu 8e strike small letters as capitals";
     "volume" 'v' option Kind::One(Form::Volume), "N", "The volume of an RK05 disk, 1 or 2, where TAPE is the file of one; TAPE:1 and TAPE:2 mean it too";
     "dectape" flag Kind::Flag, "", "TAPE is the file of a DECtape, of 129 words a block";
     "plain" flag Kind::Flag, "", "TAPE is one volume from its first byte, whatever stands in it";

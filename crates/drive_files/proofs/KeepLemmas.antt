@@ -9,11 +9,11 @@ use Rattle.program_tasks.specs.declared.boots.DriveForm.{DriveForm}
 use Rattle.outcome.specs.declared.endings.Ending.{Ending}
 use Rattle.image_files.specs.Laws.{KeepsFiles}
 use Rattle.image_files.specs.Reading.{Holds, looked_name}
-use Rattle.image_files.specs.Work.{Then, Purely}
+use Rattle.image_files.specs.Work.{Then, Purely, IsJust}
 use Rattle.image_files.specs.declared.reading.ImagePlace.{ImagePlace}
 use Rattle.image_files.proofs.KeepLemmas.{holds-keeps, looks-keeps, purely-keeps, same, then-keeps}
 use Rattle.drive_files.specs.Mounting.{place_of, places_of}
-use Rattle.drive_files.specs.Opening.{AreOpen, are_saved, is_saved, HoldsIf, HoldsToWrite, IsJust, IsWritable, LooksIn, OpensDisk, OpensDrive, OpensDrives, OpensNamed, TakesPack, open_disk}
+use Rattle.drive_files.specs.Opening.{AreOpen, are_saved, is_saved, HoldsIf, HoldsToWrite, IsWritable, LooksIn, OpensDisk, OpensDrive, OpensDrives, OpensNamed, TakesPack, open_disk}
 use Rattle.drive_files.specs.Saving.{SavesDrive, SavesDrives}
 use Rattle.drive_files.specs.declared.mounting.Places.{Places}
 use Rattle.drive_files.specs.declared.opening.OpenDisk.{OpenDisk}
@@ -168,10 +168,10 @@ AreNone places = (places.place0 ≡ None) × (places.place1 ≡ None) × (places
 pub saves-no-place : (disk : DiskState) (places places' : Places) (old : List Event) (result : Result (Unit {0}) Ending) (new : List Event) → AreNone places
     → SavesDrives disk places places' old result new → (new ≡ old) × AreNone places'
 saves-no-place disk places places' old result new (n0, n1, n2, n3) s = (
-  saves-nothing disk.drive3.pack places.place3 places.saved3.items places'.saved3.items s.after_third s.fourth new n3 s.saves3
-      ∙ (saves-nothing disk.drive2.pack places.place2 places.saved2.items places'.saved2.items s.after_second s.third s.after_third n2 s.saves2
-      ∙ (saves-nothing disk.drive1.pack places.place1 places.saved1.items places'.saved1.items s.after_first s.second s.after_second n1 s.saves1
-      ∙ saves-nothing disk.drive0.pack places.place0 places.saved0.items places'.saved0.items old s.first s.after_first n0 s.saves0)),
+  saves-nothing disk.drive3.pack places.place3 places.rooms.saved3.items places'.rooms.saved3.items s.after_third s.fourth new n3 s.saves3
+      ∙ (saves-nothing disk.drive2.pack places.place2 places.rooms.saved2.items places'.rooms.saved2.items s.after_second s.third s.after_third n2 s.saves2
+      ∙ (saves-nothing disk.drive1.pack places.place1 places.rooms.saved1.items places'.rooms.saved1.items s.after_first s.second s.after_second n1 s.saves1
+      ∙ saves-nothing disk.drive0.pack places.place0 places.rooms.saved0.items places'.rooms.saved0.items old s.first s.after_first n0 s.saves0)),
   (s.same.0 ∙ n0, s.same.1 ∙ n1, s.same.2 ∙ n2, s.same.3 ∙ n3),
 )
 

@@ -3,3 +3,4 @@ pub mod OutputLemmas
 mod SaveLemmas
 pub mod KeepLemmas
 pub mod RestoreLemmas
+mod RoundLemmas

@@ -96,7 +96,7 @@ drive-text (Some pack) (Some place) saved saved' old result new p = pack-text pa
 pub saves-text : (disk : DiskState) (places places' : Places) (old : List Event) (result : Result (Unit {0}) Ending) (new : List Event)
     → SavesDrives disk places places' old result new → output_text new ≡ output_text old
 saves-text disk places places' old result new s =
-    drive-text disk.drive3.pack places.place3 places.saved3.items places'.saved3.items s.after_third s.fourth new s.saves3
-    ∙ (drive-text disk.drive2.pack places.place2 places.saved2.items places'.saved2.items s.after_second s.third s.after_third s.saves2
-    ∙ (drive-text disk.drive1.pack places.place1 places.saved1.items places'.saved1.items s.after_first s.second s.after_second s.saves1
-    ∙ drive-text disk.drive0.pack places.place0 places.saved0.items places'.saved0.items old s.first s.after_first s.saves0))
+    drive-text disk.drive3.pack places.place3 places.rooms.saved3.items places'.rooms.saved3.items s.after_third s.fourth new s.saves3
+    ∙ (drive-text disk.drive2.pack places.place2 places.rooms.saved2.items places'.rooms.saved2.items s.after_second s.third s.after_third s.saves2
+    ∙ (drive-text disk.drive1.pack places.place1 places.rooms.saved1.items places'.rooms.saved1.items s.after_first s.second s.after_second s.saves1
+    ∙ drive-text disk.drive0.pack places.place0 places.rooms.saved0.items places'.rooms.saved0.items old s.first s.after_first s.saves0))

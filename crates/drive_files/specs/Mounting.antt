@@ -45,10 +45,6 @@ places_of drives = record {
   place1 = place_of drives.disk1;
   place2 = place_of drives.disk2;
   place3 = place_of drives.disk3;
-  saved0 = drives.saved0;
-  saved1 = drives.saved1;
-  saved2 = drives.saved2;
-  saved3 = drives.saved3;
-  spare = drives.spare;
+  rooms = drives.rooms;
   saves = 0;
 }

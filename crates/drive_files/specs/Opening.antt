@@ -19,15 +19,11 @@ use Rattle.outcome.specs.declared.endings.Ending.{Ending}
 use Rattle.outcome.specs.declared.endings.Ending.TheVariants.{Line, Fault, NotWritten}
 use Rattle.image_files.specs.Reading.{Holds, Looks, looked_name}
 use Rattle.image_files.specs.Reasons.{TellsReason}
-use Rattle.image_files.specs.Work.{Then, Purely}
+use Rattle.image_files.specs.Work.{Then, Purely, IsJust}
 use Rattle.image_files.specs.declared.reading.ImagePlace.{ImagePlace}
 use Rattle.drive_files.specs.declared.opening.OpenDisk.{OpenDisk}
 use Rattle.drive_files.specs.declared.opening.OpenDrives.{OpenDrives}
-
--- a step gives just this
-abbrev pub IsJust : {A : Type 0} → A → Result A Ending → Type 0
-IsJust given (Ok it) = it ≡ given
-IsJust given (Err ending) = ⊥
+use Rattle.drive_files.specs.declared.opening.SaveRooms.{SaveRooms}
 
 -- ## Holding
 
@@ -96,12 +92,12 @@ abbrev pub are_saved : DiskForm → Bool
 are_saved form = is_saved form.is_look form.drive0 || (is_saved form.is_look form.drive1 || (is_saved form.is_look form.drive2 || is_saved form.is_look form.drive3))
 
 -- no file has got bytes from a save
-abbrev pub HaveSavedNone : OpenDrives → Type 0
-HaveSavedNone drives = (drives.saved0.items ≡ []) × (drives.saved1.items ≡ []) × (drives.saved2.items ≡ []) × (drives.saved3.items ≡ [])
+abbrev pub HaveSavedNone : SaveRooms → Type 0
+HaveSavedNone rooms = (rooms.saved0.items ≡ []) × (rooms.saved1.items ≡ []) × (rooms.saved2.items ≡ []) × (rooms.saved3.items ≡ [])
 
 -- the disks of the drives, unless memory is wanted for a save
 abbrev pub AreOpen : Option OpenDisk → Option OpenDisk → Option OpenDisk → Option OpenDisk → Result OpenDrives Ending → Type 0
-AreOpen disk0 disk1 disk2 disk3 (Ok drives) = (drives.disk0 ≡ disk0) × (drives.disk1 ≡ disk1) × (drives.disk2 ≡ disk2) × (drives.disk3 ≡ disk3) × HaveSavedNone drives
+AreOpen disk0 disk1 disk2 disk3 (Ok drives) = (drives.disk0 ≡ disk0) × (drives.disk1 ≡ disk1) × (drives.disk2 ≡ disk2) × (drives.disk3 ≡ disk3) × HaveSavedNone drives.rooms
 AreOpen disk0 disk1 disk2 disk3 (Err ending) = ending ≡ Fault Memory
 
 -- one after the other

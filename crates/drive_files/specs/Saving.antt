@@ -61,9 +61,9 @@ pub record SavesDrives (disk : DiskState) (places places' : Places) (old : List 
   pub after_first : List Event
   pub after_second : List Event
   pub after_third : List Event
-  pub saves0 : SavesDrive disk.drive0.pack places.place0 places.saved0.items places'.saved0.items old first after_first
-  pub saves1 : SavesDrive disk.drive1.pack places.place1 places.saved1.items places'.saved1.items after_first second after_second
-  pub saves2 : SavesDrive disk.drive2.pack places.place2 places.saved2.items places'.saved2.items after_second third after_third
-  pub saves3 : SavesDrive disk.drive3.pack places.place3 places.saved3.items places'.saved3.items after_third fourth new
+  pub saves0 : SavesDrive disk.drive0.pack places.place0 places.rooms.saved0.items places'.rooms.saved0.items old first after_first
+  pub saves1 : SavesDrive disk.drive1.pack places.place1 places.rooms.saved1.items places'.rooms.saved1.items after_first second after_second
+  pub saves2 : SavesDrive disk.drive2.pack places.place2 places.rooms.saved2.items places'.rooms.saved2.items after_second third after_third
+  pub saves3 : SavesDrive disk.drive3.pack places.place3 places.rooms.saved3.items places'.rooms.saved3.items after_third fourth new
   pub same : ArePlaces places places'
   pub is : result ≡ earlier first (earlier second (earlier third fourth))

@@ -3,7 +3,7 @@ ghost use Rattle.std.specs.Prelude.{◌≡◌, ◌≤◌};
 ghost use Rattle.rk8e.specs.State.{drive_of, with_drive};
 ghost use Rattle.drive_files.specs.Mounting as spec;
 
-use crate::opening::{OpenDisk, OpenDrives};
+use crate::opening::{OpenDisk, OpenDrives, SaveRooms};
 use image_files::ImagePlace;
 use program_tasks::DiskForm;
 use rk8e::Disk;
@@ -11,21 +11,14 @@ use rk8e::Disk;
 /// The greatest time of a disk, in instructions.
 const MOST_TIME: u32 = 1_000_000;
 
-/// Where the files of the drives are held, each if it is to be saved, and the bytes that each got last from a save.
+/// Where the files of the drives are held, each if it is to be saved, and what is known of their saves.
 #[derive(Drop)]
 pub struct Places {
     pub place0: Option<ImagePlace>,
     pub place1: Option<ImagePlace>,
     pub place2: Option<ImagePlace>,
     pub place3: Option<ImagePlace>,
-
-    pub saved0: Vec<u8>,
-    pub saved1: Vec<u8>,
-    pub saved2: Vec<u8>,
-    pub saved3: Vec<u8>,
-
-    /// Room for the bytes of a disk.
-    pub spare: Vec<u8>,
+    pub rooms: SaveRooms,
 
     /// How many times a file was written.
     pub saves: u64,
@@ -41,11 +34,7 @@ pub fn disk_of(form: &DiskForm, drives: OpenDrives) -> (Disk, Places)
         disk1,
         disk2,
         disk3,
-        saved0,
-        saved1,
-        saved2,
-        saved3,
-        spare,
+        rooms,
     } = drives;
     let mut disk = Disk::new(time_of_disk(form.seek_time), time_of_disk(form.disk_time));
     let place0 = put_disk(&mut disk, 0, disk0, form.drive0.is_locked);
@@ -57,11 +46,7 @@ pub fn disk_of(form: &DiskForm, drives: OpenDrives) -> (Disk, Places)
         place1,
         place2,
         place3,
-        saved0,
-        saved1,
-        saved2,
-        saved3,
-        spare,
+        rooms,
         saves: 0,
     };
     (disk, places)

@@ -1,6 +1,6 @@
 //! The files of the disks, held where they are to be saved, and read.
 ghost use Rattle.std.specs.Prelude.{◌≡◌, [], IfOk};
-ghost use Rattle.drive_files.specs.Opening.{HoldsIf, HoldsToWrite, LooksIn, OpensDisk, OpensDrive, OpensDrives, RefusesPack, TakesPack, ending_of_pack};
+ghost use Rattle.drive_files.specs.Opening.{HaveSavedNone, HoldsIf, HoldsToWrite, LooksIn, OpensDisk, OpensDrive, OpensDrives, RefusesPack, TakesPack, ending_of_pack};
 
 use hosts::{Host, Unwritten};
 use image_files::{ImagePlace, hold, look, look_file, tell_note, tell_reason};
@@ -21,21 +21,26 @@ pub struct OpenDisk {
     pub place: Option<ImagePlace>,
 }
 
-/// The disks of the drives.
+/// The disks of the drives, and room for what is saved of them.
 #[derive(Drop)]
 pub struct OpenDrives {
     pub disk0: Option<OpenDisk>,
     pub disk1: Option<OpenDisk>,
     pub disk2: Option<OpenDisk>,
     pub disk3: Option<OpenDisk>,
+    pub rooms: SaveRooms,
+}
 
-    /// The bytes that the file of each got last from a save: none so far. They have room for those of a disk where the file is held.
+/// Room for the bytes of disks, which is taken before a run, so that no save wants memory.
+#[derive(Drop)]
+pub struct SaveRooms {
+    /// The bytes that the file of each drive's disk got last from a save. They have room for those of a disk where the file is held.
     pub saved0: Vec<u8>,
     pub saved1: Vec<u8>,
     pub saved2: Vec<u8>,
     pub saved3: Vec<u8>,
 
-    /// Room for the bytes of a disk that is saved, so that no memory is wanted then.
+    /// Room for the bytes of a disk that is saved.
     pub spare: Vec<u8>,
 }
 
@@ -51,16 +56,33 @@ pub fn open_drives<H: Host>(
     let disk1 = open_drive(host, alloc, &form.drive1, form.is_look)?;
     let disk2 = open_drive(host, alloc, &form.drive2, form.is_look)?;
     let disk3 = open_drive(host, alloc, &form.drive3, form.is_look)?;
-    let saved0 = room_for(alloc, is_held(&disk0))?;
-    let saved1 = room_for(alloc, is_held(&disk1))?;
-    let saved2 = room_for(alloc, is_held(&disk2))?;
-    let saved3 = room_for(alloc, is_held(&disk3))?;
-    let spare = room_for(alloc, !form.is_look)?;
+    let rooms = take_rooms(alloc, &disk0, &disk1, &disk2, &disk3, !form.is_look)?;
     Ok(OpenDrives {
         disk0,
         disk1,
         disk2,
         disk3,
+        rooms,
+    })
+}
+
+/// Takes room for the bytes of those disks whose files are to be saved, and for a save, if one may be made. No file has got bytes yet.
+fn take_rooms(
+    alloc: Global,
+    disk0: &Option<OpenDisk>,
+    disk1: &Option<OpenDisk>,
+    disk2: &Option<OpenDisk>,
+    disk3: &Option<OpenDisk>,
+    is_saved: bool,
+) -> Result<SaveRooms, AllocError>
+    ensures { IfOk result HaveSavedNone }
+{
+    let saved0 = room_for(alloc, is_held(disk0))?;
+    let saved1 = room_for(alloc, is_held(disk1))?;
+    let saved2 = room_for(alloc, is_held(disk2))?;
+    let saved3 = room_for(alloc, is_held(disk3))?;
+    let spare = room_for(alloc, is_saved)?;
+    Ok(SaveRooms {
         saved0,
         saved1,
         saved2,

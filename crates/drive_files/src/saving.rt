@@ -30,8 +30,8 @@ pub fn save_drives<H: Host>(
         machine,
         0,
         &places.place0,
-        &mut places.saved0,
-        &mut places.spare,
+        &mut places.rooms.saved0,
+        &mut places.rooms.spare,
         &mut places.saves,
     );
     let second = save_drive(
@@ -40,8 +40,8 @@ pub fn save_drives<H: Host>(
         machine,
         1,
         &places.place1,
-        &mut places.saved1,
-        &mut places.spare,
+        &mut places.rooms.saved1,
+        &mut places.rooms.spare,
         &mut places.saves,
     );
     let third = save_drive(
@@ -50,8 +50,8 @@ pub fn save_drives<H: Host>(
         machine,
         2,
         &places.place2,
-        &mut places.saved2,
-        &mut places.spare,
+        &mut places.rooms.saved2,
+        &mut places.rooms.spare,
         &mut places.saves,
     );
     let fourth = save_drive(
@@ -60,8 +60,8 @@ pub fn save_drives<H: Host>(
         machine,
         3,
         &places.place3,
-        &mut places.saved3,
-        &mut places.spare,
+        &mut places.rooms.saved3,
+        &mut places.rooms.spare,
         &mut places.saves,
     );
     earlier(first, earlier(second, earlier(third, fourth)))

@@ -25,6 +25,11 @@ Then first next old result new = Ends first old result new ⊎ Follows first nex
 abbrev pub Purely : {A : Type 0} → (Result A Ending → Type 0) → List Event → Result A Ending → List Event → Type 0
 Purely gives old result new = gives result × (new ≡ old)
 
+-- a step gives just this
+abbrev pub IsJust : {A : Type 0} → A → Result A Ending → Type 0
+IsJust given (Ok it) = it ≡ given
+IsJust given (Err ending) = ⊥
+
 -- ## How a command ends
 
 -- memory is wanted, and nothing more was asked of the host

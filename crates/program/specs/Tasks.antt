@@ -49,7 +49,7 @@ use Rattle.tape_commands.specs.Sources.{WritesSource}
 use Rattle.tape_commands.specs.Tapes.{ListsTape}
 use Rattle.assemble_commands.specs.Assembling.{Assembles}
 use Rattle.script_commands.specs.Scripts.{OpensFor, RunsOver}
-use Rattle.boot_commands.specs.Boots.{BootsDisk}
+use Rattle.run_commands.specs.Boots.{BootsDisk}
 use Rattle.run_commands.specs.Profiles.{ProfilesTape}
 use Rattle.run_commands.specs.Teletypes.{RunsTeletype}
 use Rattle.run_commands.specs.Traces.{TracesTape}

@@ -8,7 +8,6 @@ ghost use Rattle.program.specs.Tasks.{ChoosesStyle, DoesTask, ListsIndex, Prints
 use crate::asking::change_asked;
 use crate::changed::notes_for;
 use crate::changes::{Change, change_image, open_within};
-use boot_commands::boot_disk;
 use byte_reader::ByteReader;
 use change_commands::WordPatch;
 use command_table::SCRIPT_LINES;
@@ -20,7 +19,7 @@ use outcome::{Ending, gives_data};
 use program_tasks::{
     GetTextsForm, ImageForm, IndexForm, LineForm, PatchForm, RunForm, ScanForm, Task,
 };
-use run_commands::{profile_tape, run_teletype, trace_tape};
+use run_commands::{boot_disk, profile_tape, run_teletype, trace_tape};
 use salvage_commands::{rescue_image, scan_blocks, scan_into};
 use script_commands::run_over;
 use show_commands::{check_images, dump_blocks, list_files, list_places, list_some};

@@ -21,7 +21,7 @@ use Rattle.program_tasks.specs.declared.tasks.Saving.TheVariants.{AtEnd, Never, 
 use Rattle.program_tasks.specs.declared.tasks.SourceForm.{SourceForm}
 use Rattle.program_tasks.specs.declared.tasks.Task.{Task}
 use Rattle.program_tasks.specs.declared.tasks.Task.TheVariants as task
-use Rattle.program_tasks.specs.declared.boots.BootForm.{BootForm}
+use Rattle.program_tasks.specs.declared.boots.ConsoleForm.{ConsoleForm}
 use Rattle.program_tasks.specs.declared.tasks.TeletypeForm.{TeletypeForm}
 use Rattle.program_tasks.specs.declared.tasks.TraceForm.{TraceForm}
 use Rattle.archive_files.specs.declared.forms.GetForm.{GetForm}
@@ -73,7 +73,7 @@ use Rattle.tape_commands.specs.Tapes.{ListsTape}
 use Rattle.assemble_commands.specs.Assembling.{Assembles}
 use Rattle.script_commands.specs.Scripts.{OpensFor, RunsOver, RunsScript}
 use Rattle.run_commands.specs.Profiles.{ProfilesTape}
-use Rattle.boot_commands.specs.Boots.{BootsDisk}
+use Rattle.run_commands.specs.Boots.{BootsDisk}
 use Rattle.drive_files.specs.Opening.{are_saved}
 use Rattle.run_commands.specs.Devices8e.{has_papers}
 use Rattle.run_commands.specs.Teletypes.{RunsTeletype}
@@ -229,15 +229,15 @@ module _
     neither-papers true b is = absurd (true≢false is)
     neither-papers false b is = (refl, is)
 
-    pub does-keep : (it : Task) (is_typed : Bool) (input : Reading) → ((form : TeletypeForm) → KeepsFiles (RunsTeletype form input))
+    pub does-keep : (it : Task) (is_typed : Bool) (input : Reading) → ((form : TeletypeForm) → are_saved form.console.disk ≡ false → KeepsFiles (RunsTeletype form input))
         → ((named : ImageForm) (form : RunForm) → form.saving ≡ Never → KeepsFiles (RunsScript named form is_typed input))
-        → ((form : BootForm) → are_saved form.disk ≡ false → KeepsFiles (BootsDisk form input))
+        → ((form : ConsoleForm) → are_saved form.disk ≡ false → KeepsFiles (BootsDisk form input))
         → may_change it ≡ false → KeepsFiles (DoesTask it is_typed input)
     does-keep (task.Tape tape) is_typed input keys script boots quiet = tapes tape
     does-keep (task.Rim tape form) is_typed input keys script boots quiet = rims form tape
     does-keep (task.Source form) is_typed input keys script boots quiet = sources form
     does-keep (task.Assemble form) is_typed input keys script boots quiet = within-keeps (seconds_for form.from) (file_for form.from) (Assembles form) (assembled form quiet)
-    does-keep (task.Teletype form) is_typed input keys script boots quiet = keys form
+    does-keep (task.Teletype form) is_typed input keys script boots quiet = keys form quiet
     does-keep (task.Trace form) is_typed input keys script boots quiet =
         let two = neither-papers (are_saved form.disk) (has_papers form.devices) quiet in
         traces form two.0 two.1

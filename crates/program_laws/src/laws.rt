@@ -36,7 +36,6 @@ ghost use Rattle.archive_files.specs.Asking.{target_of};
 use archive_files::laws::put_is_got;
 use assemble_commands::laws::unchanged_files as unchanged_sources;
 use bin_tape::laws::written_tape;
-use boot_commands::laws::unchanged_files as unchanged_boots;
 use byte_reader::ByteReader;
 use get_commands::laws::shown_files;
 use image_files::laws::found_again;
@@ -65,7 +64,6 @@ pub fn quiet_tasks<I: ByteReader>()
     unchanged_machines::<I>();
     unchanged_scripts::<I>();
     unchanged_sources();
-    unchanged_boots::<I>();
 }
 
 /// What each ending of `assemble --onto` means, where no listing is named. The volume that has the sources gets their tape where the command

@@ -1,4 +1,4 @@
-//! What is asked of an 8/E with disks, and of one that boots.
+//! What is asked of an 8/E with disks, and of its run at the console.
 use word12::Word;
 
 /// What is in a drive, and whether an operator has locked it.
@@ -29,9 +29,9 @@ pub struct DiskForm {
     pub seek_time: u32,
 }
 
-/// How an 8/E boots the disk in drive 0, with the terminal as its console (this project's profile).
+/// How an 8/E with disks runs with the terminal as its console (this project's profile).
 #[derive(Drop)]
-pub struct BootForm {
+pub struct ConsoleForm {
     pub disk: DiskForm,
 
     /// What the switches are set to, if it is given.

@@ -10,7 +10,7 @@ mod names;
 mod tasks;
 
 pub use archives::{BlockSpan, IndexForm, LineForm, PatchForm, RescueForm, ScanForm};
-pub use boots::{BootForm, DiskForm, DriveForm};
+pub use boots::{ConsoleForm, DiskForm, DriveForm};
 pub use devices::DeviceForm;
 pub use forms::{
     BlocksForm, CheckForm, CopyChoice, CopyForm, CreateForm, DeleteForm, GetManyForm, GetTextsForm,

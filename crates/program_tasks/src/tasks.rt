@@ -1,6 +1,6 @@
 //! The tasks, and the forms of those that run scripts, sources and tapes.
 use crate::archives::{BlockSpan, IndexForm, PatchForm, RescueForm, ScanForm};
-use crate::boots::{BootForm, DiskForm};
+use crate::boots::{ConsoleForm, DiskForm};
 use crate::devices::DeviceForm;
 use crate::forms::{
     BlocksForm, CheckForm, CopyForm, CreateForm, DeleteForm, GetManyForm, GetTextsForm, ImageForm,
@@ -119,14 +119,8 @@ pub struct TeletypeForm {
     /// The cell at which the processor starts, if one is given.
     pub start: Option<Cell>,
 
-    /// What the switches are set to, if it is given.
-    pub switches: Option<Word>,
-
-    /// The most instructions that are done, 1 up, if a limit is given.
-    pub steps: Option<u64>,
-
-    pub is_raw: bool,
-    pub is_live: bool,
+    /// How it runs there. An 8/I has no disk.
+    pub console: ConsoleForm,
 }
 
 /// How the processor runs while its steps are printed or counted (this project's profile).
@@ -254,5 +248,5 @@ pub enum Task {
     Profile(TraceForm),
 
     /// Boot a disk with the terminal as the console.
-    Boot(BootForm),
+    Boot(ConsoleForm),
 }

@@ -20,6 +20,7 @@ use Rattle.tape_reports.specs.Starts.{first_cell, gives_word, start_cell}
 use Rattle.program_reports.specs.declared.programs.ProgramLine.TheVariants.{Start}
 use Rattle.run_commands.specs.RunLines.{run_line}
 use Rattle.run_commands.specs.declared.run_lines.RunLine.TheVariants.{Steps}
+use Rattle.program_tasks.specs.declared.boots.ConsoleForm.{ConsoleForm}
 use Rattle.program_tasks.specs.declared.boots.DiskForm.{DiskForm}
 use Rattle.program_tasks.specs.declared.devices.DeviceForm.{DeviceForm}
 use Rattle.program_tasks.specs.declared.forms.TapeForm.{TapeForm}
@@ -32,31 +33,31 @@ use Rattle.outcome.specs.Hints.{given_note, start_note}
 use Rattle.outcome.specs.declared.endings.Ending.{Ending}
 use Rattle.outcome.specs.declared.notes.PlainNote.{PlainNote}
 use Rattle.image_files.specs.Answers.{AreLines}
-use Rattle.image_files.specs.Ending.{TellsLine}
 use Rattle.image_files.specs.Laws.{KeepsFiles}
 use Rattle.image_files.proofs.KeepLemmas.{looks-keeps, purely-keeps, same, then-keeps}
 use Rattle.image_files.specs.Notes.{Tells}
 use Rattle.image_files.specs.Reading.{Looks}
 use Rattle.image_files.specs.Saving.{Prints}
-use Rattle.image_files.specs.Work.{Then, Purely}
+use Rattle.image_files.specs.Work.{Then, Purely, IsJust}
 use Rattle.drive_files.specs.Mounting.{places_of}
-use Rattle.drive_files.specs.Opening.{IsJust, OpensDrives, are_saved}
+use Rattle.drive_files.specs.Opening.{OpensDrives, are_saved}
 use Rattle.drive_files.specs.declared.mounting.Places.{Places}
 use Rattle.drive_files.specs.declared.opening.OpenDrives.{OpenDrives}
 use Rattle.drive_files.proofs.KeepLemmas.{AreNone, AreUnplaced, drives-keep, drives-unplaced, saves-no-place}
 use Rattle.tape_commands.specs.Kinds.{RefusesFrames}
 use Rattle.tape_commands.specs.Programs.{ReadsProgram}
 use Rattle.run_commands.specs.CorePrograms.{FindsStart, LoadsCore, LoadsProgram, StartsAt, StartsIf, TellsCell, TellsStart, program_in}
-use Rattle.run_commands.specs.Lines.{TellsRun, TellsText}
 use Rattle.run_commands.specs.Machines8i as pdp8i
 use Rattle.run_commands.specs.Machines8e as pdp8e
 use Rattle.run_commands.specs.Devices8e.{OpensDevices, OpensPaper, ReadsTape, SavesPaper, SavesPapers, has_papers, open_devices}
 use Rattle.run_commands.specs.Drives8e.{IsStation, OpensStation, PrintsIf, ProfilesDrives, ProfilesSaving, TracesDrives, TracesSaving}
-use Rattle.run_commands.specs.Printing.{EndsRun, EndsTrace, GivesProfile, IsEndOf, PrintsRun, PrintsTrace, line_of_end}
+use Rattle.run_commands.specs.Printing.{EndsRun, EndsTrace, GivesProfile, PrintsRun, PrintsTrace}
 use Rattle.run_commands.specs.Profiles.{ProfilesOn, ProfilesPlain, ProfilesTape}
 use Rattle.run_commands.specs.Runs.{IsReady, ReadsRun, start_or}
+use Rattle.run_commands.specs.Runs8e.{RunsDisks, RunsOn8e, loaded_console, needs_console}
 use Rattle.run_commands.specs.Teletypes.{ReadsProgramOf, RunsOn, RunsTeletype}
 use Rattle.run_commands.specs.Traces.{TracesOn, TracesTape}
+use Rattle.run_commands.proofs.ConsoleLemmas.{console-keeps, run-ends, text-keeps}
 use Rattle.run_commands.specs.declared.core_programs.CoreProgram.{CoreProgram}
 use Rattle.run_commands.specs.declared.devices8e.OpenDevices.{OpenDevices}
 use Rattle.run_commands.specs.declared.devices8e.PaperPlace.{PaperPlace}
@@ -67,16 +68,6 @@ use Rattle.run_commands.specs.declared.runs.Run.{Run}
 tells-keeps : (path : List ℕ) (note : Option PlainNote) (old new : List Event) → Tells note old new → about path new ≡ about path old
 tells-keeps path None old new p = same path p
 tells-keeps path (Some note) old new p = same path p.1
-
-line-keeps : (path line : List ℕ) (old new : List Event) → TellsLine line old new → about path new ≡ about path old
-line-keeps path line old new (inl (utf8, ok, p)) = same path p
-line-keeps path line old new (inr p) = same path p.1
-
-text-keeps : (line : List ℕ) → KeepsFiles (TellsText line)
-text-keeps line old (Ok it) new p path = line-keeps path line old new p
-text-keeps line old (Err ending) new p path = same path p.1
-
--- ## Where a program starts
 
 cell-keeps : (is : Bool) (start : ℕ) → KeepsFiles (TellsCell is start)
 cell-keeps true start old result new p path = same path p.1
@@ -273,23 +264,28 @@ module _
         (λ run. traces-on form.cpu form.disk form.devices is none (unwrap_or form.steps 1000) run)
 
     program-reads : (form : TeletypeForm) → KeepsFiles (ReadsProgramOf form)
-    program-reads form = then-keeps (ReadsProgram form.tape) (λ tape. LoadsProgram tape.frames.items (start_or form.start tape.start) form.switches)
-        (program-keeps form.tape) (λ tape. program-loads tape.frames.items (start_or form.start tape.start) form.switches)
-
-    run-ends : (stand : Stand) (why : Option PrintFault) (done : Result Ended TerminalFault) → KeepsFiles (EndsRun stand why done)
-    run-ends stand why (Ok ended) old result new p path = then-keeps (TellsRun (line_of_end stand ended.why)) (λ it. Purely (IsEndOf ended.why)) (text-keeps (run_line (line_of_end stand ended.why))) (λ it. purely-keeps (IsEndOf ended.why))
-        old result new p path
-    run-ends stand why (Err Reader) old result new p path = same path p.1
-    run-ends stand why (Err Writer) old result new p path = same path p.1
+    program-reads form = then-keeps (ReadsProgram form.tape) (λ tape. LoadsProgram tape.frames.items (start_or form.start tape.start) form.console.switches)
+        (program-keeps form.tape) (λ tape. program-loads tape.frames.items (start_or form.start tape.start) form.console.switches)
 
     prints-run : (runs_to : Stand → Option (List ℕ) → Option (List ℕ) → Result Ended TerminalFault → Type 0) (keys : Reading) → KeepsFiles (PrintsRun runs_to keys)
     prints-run runs_to keys old result new p path = run-ends p.stand p.fault p.done p.between result new p.ends path ∙ output-keeps old p.between p.fault path p.prints
 
-    runs-on : (cpu : Cpu) (form : TeletypeForm) (program : CoreProgram) (keys : Reading) → KeepsFiles (RunsOn cpu form program keys)
-    runs-on EightI form program keys = prints-run (pdp8i.RunsTo form program keys) keys
-    runs-on EightE form program keys = prints-run (pdp8e.RunsTo form program keys) keys
+    runs-disks : (form : ConsoleForm) (program : CoreProgram) (keys : Reading) → are_saved form.disk ≡ false → KeepsFiles (RunsDisks form program keys)
+    runs-disks form program keys is old (Ok it) new (inl p) path = absurd p.0
+    runs-disks form program keys is old (Err ending) new (inl p) path = drives-keep form.disk old (Err ending) new p.0 path
+    runs-disks form program keys is old result new (inr it) path =
+        console-keeps output-keeps form (loaded_console form it.given program) (places_of it.given) keys (drives-unplaced form.disk is it.given old it.between it.done) it.between result new it.after path
+        ∙ drives-keep form.disk old (Ok it.given) it.between it.done path
 
-    pub teletype-keeps : (form : TeletypeForm) (keys : Reading) → KeepsFiles (RunsTeletype form keys)
-    teletype-keeps form keys old (Ok it) new (inl p) path = absurd p.0
-    teletype-keeps form keys old (Err ending) new (inl p) path = program-reads form old (Err ending) new p.0 path
-    teletype-keeps form keys old result new (inr it) path = runs-on form.cpu form it.given keys it.between result new it.after path ∙ program-reads form old (Ok it.given) it.between it.done path
+    runs-8e : (is : Bool) (form : TeletypeForm) (program : CoreProgram) (keys : Reading) → are_saved form.console.disk ≡ false → KeepsFiles (RunsOn8e is form program keys)
+    runs-8e true form program keys none = runs-disks form.console program keys none
+    runs-8e false form program keys none = prints-run (pdp8e.RunsTo form program keys) keys
+
+    runs-on : (cpu : Cpu) (form : TeletypeForm) (program : CoreProgram) (keys : Reading) → are_saved form.console.disk ≡ false → KeepsFiles (RunsOn cpu form program keys)
+    runs-on EightI form program keys none = prints-run (pdp8i.RunsTo form program keys) keys
+    runs-on EightE form program keys none = runs-8e (needs_console form.console) form program keys none
+
+    pub teletype-keeps : (form : TeletypeForm) (keys : Reading) → are_saved form.console.disk ≡ false → KeepsFiles (RunsTeletype form keys)
+    teletype-keeps form keys none old (Ok it) new (inl p) path = absurd p.0
+    teletype-keeps form keys none old (Err ending) new (inl p) path = program-reads form old (Err ending) new p.0 path
+    teletype-keeps form keys none old result new (inr it) path = runs-on form.cpu form it.given keys none it.between result new it.after path ∙ program-reads form old (Ok it.given) it.between it.done path

@@ -15,9 +15,8 @@ use Rattle.outcome.specs.declared.endings.Ending.{Ending}
 use Rattle.outcome.specs.declared.endings.Ending.TheVariants.{Line}
 use Rattle.image_files.specs.Notes.{Tells}
 use Rattle.image_files.specs.Saving.{IsDone}
-use Rattle.image_files.specs.Work.{Then, Purely, Lacks}
+use Rattle.image_files.specs.Work.{Then, Purely, Lacks, IsJust}
 use Rattle.tape_commands.specs.Kinds.{RefusesFrames}
-use Rattle.drive_files.specs.Opening.{IsJust}
 use Rattle.run_commands.specs.Lines.{TellsProgram, IsEnding}
 use Rattle.run_commands.specs.declared.core_programs.CoreProgram.{CoreProgram}
 

@@ -20,8 +20,7 @@ use Rattle.image_files.specs.Making.{MakesFile, ending_of_file}
 use Rattle.image_files.specs.Reading.{Looks, hold_calls}
 use Rattle.image_files.specs.Reasons.{TellsReason}
 use Rattle.image_files.specs.Saving.{IsDone, Writes}
-use Rattle.image_files.specs.Work.{Then, Purely, Lacks}
-use Rattle.drive_files.specs.Opening.{IsJust}
+use Rattle.image_files.specs.Work.{Then, Purely, Lacks, IsJust}
 use Rattle.drive_files.specs.Saving.{SavesNothing, earlier}
 use Rattle.run_commands.specs.declared.devices8e.OpenDevices.{OpenDevices}
 use Rattle.run_commands.specs.declared.devices8e.PaperPlace.{PaperPlace}
@@ -109,15 +108,15 @@ abbrev pub new_papers : Option PaperPlace → Option PaperPlace → PapersState
 new_papers punch printer = record { punch = new_paper (is_some punch); printer = new_paper (is_some printer) }
 
 -- how a command ends by a paper that is whole, or not
-abbrev pub whole_end : Bool → Result (Unit {0}) Ending
-whole_end true = Ok tt
-whole_end false = Err (Fault Memory)
+abbrev pub paper_end : Bool → Result (Unit {0}) Ending
+paper_end true = Ok tt
+paper_end false = Err (Fault Memory)
 
 -- the file of a paper gets what was put on it
 pub record WritesPaper (paper : PaperState) (place : PaperPlace) (old : List Event) (result : Result (Unit {0}) Ending) (new : List Event) : Type 0 where
   pub written : Result (Unit {0}) Ending
   pub writes : Writes Tape place.path.bytes.items place.name.bytes.items paper.bytes old written new
-  pub is : result ≡ earlier written (whole_end paper.whole)
+  pub is : result ≡ earlier written (paper_end paper.whole)
 
 -- if there is a file
 abbrev pub SavesPaper : PaperState → Option PaperPlace → List Event → Result (Unit {0}) Ending → List Event → Type 0

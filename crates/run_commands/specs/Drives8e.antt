@@ -29,7 +29,7 @@ use Rattle.drive_files.specs.Saving.{SavesDrives, earlier}
 use Rattle.drive_files.specs.declared.mounting.Places.{Places}
 use Rattle.drive_files.specs.declared.opening.OpenDrives.{OpenDrives}
 use Rattle.run_commands.specs.Devices8e.{OpensDevices, SavesPapers, new_papers, with_devices}
-use Rattle.run_commands.specs.Inputs.{with_switches}
+use Rattle.drive_files.specs.Inputs.{with_switches}
 use Rattle.run_commands.specs.Printing.{EndsTrace, IsProfiled}
 use Rattle.run_commands.specs.declared.core_programs.CoreProgram.{CoreProgram}
 use Rattle.run_commands.specs.declared.devices8e.OpenDevices.{OpenDevices}

@@ -1,6 +1,5 @@
 pub mod Lines
 pub mod CorePrograms
-pub mod Inputs
 pub mod Machines8e
 pub mod Machines8i
 pub mod Printing
@@ -12,3 +11,6 @@ pub mod Teletypes
 pub mod Traces
 pub mod Devices8e
 pub mod Drives8e
+pub mod Boots
+pub mod Bootstraps
+pub mod Runs8e

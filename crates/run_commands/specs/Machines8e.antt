@@ -7,7 +7,7 @@ use Rattle.terminal8e.specs.Run.{RunsProgram}
 use Rattle.terminal8.specs.declared.outcomes.Ended.{Ended}
 use Rattle.terminal8.specs.declared.outcomes.TerminalFault.{TerminalFault}
 use Rattle.program_tasks.specs.declared.tasks.TeletypeForm.{TeletypeForm}
-use Rattle.run_commands.specs.Inputs.{form_of, input_of, with_switches}
+use Rattle.drive_files.specs.Inputs.{form_of, input_of, with_switches}
 use Rattle.run_commands.specs.declared.core_programs.CoreProgram.{CoreProgram}
 use Rattle.run_commands.specs.declared.printing.Stand.{Stand}
 
@@ -26,5 +26,5 @@ stand_of s = record { cell = next_cell s.base; word = slice_index s.base.core (n
 -- a program runs at the Teletype, with these keys and this paper before and after, and ends so where the machine stands
 abbrev pub RunsTo : TeletypeForm → CoreProgram → Reading → Stand → Option (List ℕ) → Option (List ℕ) → Result Ended TerminalFault → Type 0
 RunsTo form program keys stand paper paper' done = (after : State8e)
-    × RunsProgram (form_of form.is_raw) (input_of form.is_live) (unwrap_or form.steps (2 ^ 64 - 1)) (machine_of program) after keys.before keys.after paper paper' done
+    × RunsProgram (form_of form.console.is_raw) (input_of form.console.is_live) (unwrap_or form.console.steps (2 ^ 64 - 1)) (machine_of program) after keys.before keys.after paper paper' done
     × (stand ≡ stand_of after)

@@ -12,7 +12,7 @@ use Rattle.trace8.specs.Tracing.{Traces}
 use Rattle.trace8.specs.declared.faults.TraceFault.{TraceFault}
 use Rattle.profile8.specs.Counts.{AreCounts}
 use Rattle.program_tasks.specs.declared.tasks.TeletypeForm.{TeletypeForm}
-use Rattle.run_commands.specs.Inputs.{form_of, input_of, with_switches}
+use Rattle.drive_files.specs.Inputs.{form_of, input_of, with_switches}
 use Rattle.run_commands.specs.declared.core_programs.CoreProgram.{CoreProgram}
 use Rattle.run_commands.specs.declared.printing.Stand.{Stand}
 use Rattle.run_commands.specs.declared.runs.Run.{Run}
@@ -36,7 +36,7 @@ terminal_of run = terminal_with_keys (machine_of run.program) run.keys.items
 -- a program runs at the Teletype, with these keys and this paper before and after, and ends so where the machine stands
 abbrev pub RunsTo : TeletypeForm → CoreProgram → Reading → Stand → Option (List ℕ) → Option (List ℕ) → Result Ended TerminalFault → Type 0
 RunsTo form program keys stand paper paper' done = (after : State)
-    × RunsProgram (form_of form.is_raw) (input_of form.is_live) (unwrap_or form.steps (2 ^ 64 - 1)) (machine_of program) after keys.before keys.after paper paper' done
+    × RunsProgram (form_of form.console.is_raw) (input_of form.console.is_live) (unwrap_or form.console.steps (2 ^ 64 - 1)) (machine_of program) after keys.before keys.after paper paper' done
     × (stand ≡ stand_of after)
 
 -- at most so many steps of a terminal are made; the paper gets a line of each, with the flagged cells tagged; it ends so, before this cell

@@ -202,14 +202,14 @@ fn save_paper<H: Host>(
         Some(place) => {
             let (path, name) = (place.path.as_str(), place.name.as_str());
             let written = write_file(host, alloc, Content::Tape, path, name, paper.bytes());
-            earlier(written, whole_end(paper.is_whole()))
+            earlier(written, paper_end(paper.is_whole()))
         }
     }
 }
 
 /// How a command ends by a paper that is whole, or not.
-fn whole_end(is_whole: bool) -> Result<(), Ending>
-    ensures { result ≡ spec.whole_end is_whole }
+fn paper_end(is_whole: bool) -> Result<(), Ending>
+    ensures { result ≡ spec.paper_end is_whole }
 {
     if is_whole {
         Ok(())

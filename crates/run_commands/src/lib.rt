@@ -1,10 +1,12 @@
-//! The commands that run the program of a tape, over any host: what is read, which machine runs, and what each stream gets.
+//! The commands that run the program of a tape, or what a disk boots, over any host: what is read, which machine runs, and what each stream and
+//! file gets.
 #![tactic(auto)]
 
+mod boots;
+mod bootstraps;
 mod core_programs;
 mod devices8e;
 mod drives8e;
-mod inputs;
 pub mod laws;
 mod lines;
 mod machines8e;
@@ -13,12 +15,11 @@ mod printing;
 mod profiles;
 mod run_lines;
 mod runs;
+mod runs8e;
 mod teletypes;
 mod traces;
 
-pub use inputs::{form_of, input_of};
-pub use machines8e::stand_of;
-pub use printing::{Stand, end_run};
+pub use boots::boot_disk;
 pub use profiles::profile_tape;
 pub use teletypes::run_teletype;
 pub use traces::trace_tape;

@@ -7,14 +7,14 @@ ghost use Rattle.hosts.specs.Streams.{output_text};
 ghost use Rattle.host_output.specs.Printing.{HasPrinted};
 ghost use Rattle.run_commands.specs.Machines8e as spec;
 ghost use Rattle.run_commands.specs.Machines8e.{RunsTo};
-ghost use Rattle.run_commands.specs.Inputs.{form_of, input_of};
+ghost use Rattle.drive_files.specs.Inputs.{form_of, input_of};
 ghost use Rattle.run_commands.specs.Printing.{PrintsRun};
 
 use crate::core_programs::CoreProgram;
-use crate::inputs::{form_of, input_of};
 use crate::printing::{Stand, end_run};
 use byte_reader::ByteReader;
 use cpu8e::Machine;
+use drive_files::{form_of, input_of};
 use host_output::{Before, Printer};
 use hosts::{Host, PrintFault};
 use outcome::Ending;
@@ -42,7 +42,7 @@ fn machine_of(program: CoreProgram) -> Machine
 }
 
 /// Where an 8/E stands.
-pub fn stand_of(machine: &Machine) -> Stand
+pub(crate) fn stand_of(machine: &Machine) -> Stand
     ensures { result ≡ spec.stand_of machine.now }
 {
     let cell = machine.next_cell();
@@ -55,8 +55,8 @@ pub fn stand_of(machine: &Machine) -> Stand
     }
 }
 
-/// Runs a program at the Teletype, and prints the line of its end.
-pub(crate) fn run_8e<H: Host, I: ByteReader>(
+/// Runs a program at the Teletype of a machine without disks, and prints the line of its end.
+pub(crate) fn run_plain<H: Host, I: ByteReader>(
     host: H,
     alloc: Global,
     keys: &mut I,
@@ -81,20 +81,20 @@ fn run_onto<H: Host, I: ByteReader, B: Before>(
     machine: &mut Machine,
 ) -> (H, Option<PrintFault>, Result<Ended, TerminalFault>)
     requires { H.history host ≡ B.calls }
-    ensures runs { RunsProgram (form_of form.now.is_raw) (input_of form.now.is_live) (unwrap_or form.now.steps (2 ^ 64 - 1))
+    ensures runs { RunsProgram (form_of form.now.console.is_raw) (input_of form.now.console.is_live) (unwrap_or form.now.console.steps (2 ^ 64 - 1))
         machine.old machine.new (I.remaining keys.old) (I.remaining keys.new)
         (Some (output_text (H.history host))) (Some (output_text (H.history result.0))) result.2 }
     ensures prints { HasPrinted (H.history host) (H.history result.0) result.1 }
     ensures cause { IfErr result.2 (λ it. it ≡ terminal.Writer → is_some result.1 ≡ true) }
     ensures failed { IfErr result.2 (λ it. it ≡ terminal.Reader → I.has_failed keys.new) }
 {
-    let steps = form.steps.unwrap_or(u64::MAX);
+    let steps = form.console.steps.unwrap_or(u64::MAX);
     let mut printer: Printer<H, B> = Printer::new(host);
     let done = run(
         machine,
         steps,
-        form_of(form.is_raw),
-        input_of(form.is_live),
+        form_of(form.console.is_raw),
+        input_of(form.console.is_live),
         keys,
         &mut printer,
     );

@@ -11,15 +11,15 @@ ghost use Rattle.hosts.specs.Streams.{output_text};
 ghost use Rattle.host_output.specs.Printing.{HasPrinted};
 ghost use Rattle.run_commands.specs.Machines8i as spec;
 ghost use Rattle.run_commands.specs.Machines8i.{CountsTo, RunsTo, TracesTo, terminal_of};
-ghost use Rattle.run_commands.specs.Inputs.{form_of, input_of};
+ghost use Rattle.drive_files.specs.Inputs.{form_of, input_of};
 ghost use Rattle.run_commands.specs.Printing.{GivesProfile, PrintsRun, PrintsTrace};
 
 use crate::core_programs::CoreProgram;
-use crate::inputs::{form_of, input_of};
 use crate::printing::{Stand, counts_text, end_run, end_trace};
 use crate::runs::Run;
 use byte_reader::ByteReader;
 use cpu8::Machine;
+use drive_files::{form_of, input_of};
 use host_output::{Before, Printer};
 use hosts::{Host, PrintFault};
 use outcome::Ending;
@@ -87,20 +87,20 @@ fn run_onto<H: Host, I: ByteReader, B: Before>(
     machine: &mut Machine,
 ) -> (H, Option<PrintFault>, Result<Ended, TerminalFault>)
     requires { H.history host ≡ B.calls }
-    ensures runs { RunsProgram (form_of form.now.is_raw) (input_of form.now.is_live) (unwrap_or form.now.steps (2 ^ 64 - 1))
+    ensures runs { RunsProgram (form_of form.now.console.is_raw) (input_of form.now.console.is_live) (unwrap_or form.now.console.steps (2 ^ 64 - 1))
         machine.old machine.new (I.remaining keys.old) (I.remaining keys.new)
         (Some (output_text (H.history host))) (Some (output_text (H.history result.0))) result.2 }
     ensures prints { HasPrinted (H.history host) (H.history result.0) result.1 }
     ensures cause { IfErr result.2 (λ it. it ≡ terminal.Writer → is_some result.1 ≡ true) }
     ensures failed { IfErr result.2 (λ it. it ≡ terminal.Reader → I.has_failed keys.new) }
 {
-    let steps = form.steps.unwrap_or(u64::MAX);
+    let steps = form.console.steps.unwrap_or(u64::MAX);
     let mut printer: Printer<H, B> = Printer::new(host);
     let done = run(
         machine,
         steps,
-        form_of(form.is_raw),
-        input_of(form.is_live),
+        form_of(form.console.is_raw),
+        input_of(form.console.is_live),
         keys,
         &mut printer,
     );

@@ -19,7 +19,7 @@ use word12::{Cell, Word};
 
 /// Where a machine stands.
 #[derive(Clone, Copy)]
-pub struct Stand {
+pub(crate) struct Stand {
     /// The cell of the next instruction, and its word.
     pub cell: Cell,
     pub word: Word,
@@ -31,7 +31,7 @@ pub struct Stand {
 }
 
 /// Prints on standard error why a machine goes no further.
-pub fn end_run<H: Host>(
+pub(crate) fn end_run<H: Host>(
     host: &mut H,
     alloc: Global,
     stand: Stand,

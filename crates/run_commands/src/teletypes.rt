@@ -4,9 +4,9 @@ ghost use Rattle.byte_reader.specs.Readings.{reading};
 ghost use Rattle.run_commands.specs.Teletypes.{ReadsProgramOf, RunsOn, RunsTeletype};
 
 use crate::core_programs::{CoreProgram, core_program};
-use crate::machines8e::run_8e;
 use crate::machines8i::run_8i;
 use crate::runs::start_or;
+use crate::runs8e::run_8e;
 use byte_reader::ByteReader;
 use hosts::Host;
 use outcome::Ending;
@@ -15,7 +15,7 @@ use std::alloc::Global;
 use tape_commands::program_of;
 
 /// Loads a tape or a core image into a new machine, and runs it at the Teletype, whose keys a reader gives. The line of its end is printed
-/// on standard error. No file changes. The host is given back.
+/// on standard error. No file changes but those of an 8/E's disks. The host is given back.
 pub fn run_teletype<H: Host, I: ByteReader>(
     host: H,
     alloc: Global,
@@ -41,7 +41,7 @@ fn read_program<H: Host>(
 {
     let tape = program_of(host, alloc, &form.tape)?;
     let start = start_or(form.start, tape.start);
-    core_program(host, alloc, &tape.frames, start, form.switches)
+    core_program(host, alloc, &tape.frames, start, form.console.switches)
 }
 
 /// Runs a program on the machine that is asked for, and prints the line of its end.

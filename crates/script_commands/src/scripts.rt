@@ -212,14 +212,14 @@ fn run_session<H: Host, I: ByteReader>(
     } = run;
     let mut progress = progress;
     let mut spare = spare;
-    tell_of_limit(host, &mut progress, input.is_too_long());
+    tell_if_cut(host, &mut progress, input.is_too_long());
     save_last(host, alloc, &mut progress, &mut spare, &store);
     print_last(host, &mut progress);
     end_script(progress, form.is_strict, answer)
 }
 
 /// Prints a note where standard input has more bytes than are read.
-fn tell_of_limit<H: Host>(host: &mut H, progress: &mut Progress, is_too_long: bool)
+fn tell_if_cut<H: Host>(host: &mut H, progress: &mut Progress, is_too_long: bool)
     requires { progress.old.is_cut ≡ false }
     ensures done { (start : ImageState) (old : List Event) (shown : List ShownAnswer)
         → HasDone start old shown progress.old (H.history host.old) → HasDone start old shown progress.new (H.history host.new) }
@@ -228,13 +228,13 @@ fn tell_of_limit<H: Host>(host: &mut H, progress: &mut Progress, is_too_long: bo
     ensures cut { progress.new.is_cut ≡ is_too_long }
 {
     if is_too_long {
-        tell_limit(host);
+        tell_cut_input(host);
         progress.is_cut = true;
     }
 }
 
 /// Prints a note that standard input has more bytes than are read, for which no memory is taken.
-fn tell_limit<H: Host>(host: &mut H)
+fn tell_cut_input<H: Host>(host: &mut H)
     ensures { (ok : _) × (H.history host.new ≡ tell_call ok (name_text TooLong (codes "standard input")) ∷ H.history host.old) }
 {
     let _ = host.tell("note: standard input: larger than 16777216 bytes\n");

@@ -109,12 +109,12 @@ fn is_disk_word(word: Word) -> bool
 pub(super) fn is_for_devices(word: Word) -> bool
     ensures { result ≡ spec.is_for_devices word }
 {
-    word.get() / 0o1000 == IOT && is_for_any(word)
+    word.get() / 0o1000 == IOT && is_iot_for_devices(word)
 }
 
 /// The same, of an IOT.
 #[inline]
-fn is_for_any(word: Word) -> bool
+fn is_iot_for_devices(word: Word) -> bool
     ensures { result ≡ spec.is_for_devices word }
 {
     is_disk_word(word) || word.get() == CAF || is_device_word(word)

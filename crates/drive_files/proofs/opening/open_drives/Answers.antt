@@ -16,20 +16,8 @@ returns-in_err-disk2 g c = inr (record { given = c.in_ok-disk0.disk0; between = 
 pub returns-in_err-disk3 : goal.returns-in_err-disk3
 returns-in_err-disk3 g c = inr (record { given = c.in_ok-disk0.disk0; between = g.H.Host.history c.open_drive.new.host; done = c.in_ok-disk0.ensures; after = inr (record { given = c.in_ok-disk1.disk1; between = g.H.Host.history c.open_drive-2.new.host; done = c.in_ok-disk1.ensures; after = inr (record { given = c.in_ok-disk2.disk2; between = g.H.Host.history c.open_drive-3.new.host; done = c.in_ok-disk2.ensures; after = inl (ends_with (OpensDrive c.args.form.now.is_look c.args.form.now.drive3) _ _ _ _ c.in_err-disk3.ensures c.from_residual-in_err-disk3.ensures) }) }) })
 
-pub returns-in_err-saved0 : goal.returns-in_err-saved0
-returns-in_err-saved0 g c = inr (record { given = c.in_ok-disk0.disk0; between = g.H.Host.history c.open_drive.new.host; done = c.in_ok-disk0.ensures; after = inr (record { given = c.in_ok-disk1.disk1; between = g.H.Host.history c.open_drive-2.new.host; done = c.in_ok-disk1.ensures; after = inr (record { given = c.in_ok-disk2.disk2; between = g.H.Host.history c.open_drive-3.new.host; done = c.in_ok-disk2.ensures; after = inr (record { given = c.in_ok-disk3.disk3; between = g.H.Host.history c.open_drive-4.new.host; done = c.in_ok-disk3.ensures; after = (are-not-open c.in_ok-disk0.disk0 c.in_ok-disk1.disk1 c.in_ok-disk2.disk2 c.in_ok-disk3.disk3 _ c.from_residual-in_err-saved0.ensures, refl) }) }) }) })
-
-pub returns-in_err-saved1 : goal.returns-in_err-saved1
-returns-in_err-saved1 g c = inr (record { given = c.in_ok-disk0.disk0; between = g.H.Host.history c.open_drive.new.host; done = c.in_ok-disk0.ensures; after = inr (record { given = c.in_ok-disk1.disk1; between = g.H.Host.history c.open_drive-2.new.host; done = c.in_ok-disk1.ensures; after = inr (record { given = c.in_ok-disk2.disk2; between = g.H.Host.history c.open_drive-3.new.host; done = c.in_ok-disk2.ensures; after = inr (record { given = c.in_ok-disk3.disk3; between = g.H.Host.history c.open_drive-4.new.host; done = c.in_ok-disk3.ensures; after = (are-not-open c.in_ok-disk0.disk0 c.in_ok-disk1.disk1 c.in_ok-disk2.disk2 c.in_ok-disk3.disk3 _ c.from_residual-in_err-saved1.ensures, refl) }) }) }) })
-
-pub returns-in_err-saved2 : goal.returns-in_err-saved2
-returns-in_err-saved2 g c = inr (record { given = c.in_ok-disk0.disk0; between = g.H.Host.history c.open_drive.new.host; done = c.in_ok-disk0.ensures; after = inr (record { given = c.in_ok-disk1.disk1; between = g.H.Host.history c.open_drive-2.new.host; done = c.in_ok-disk1.ensures; after = inr (record { given = c.in_ok-disk2.disk2; between = g.H.Host.history c.open_drive-3.new.host; done = c.in_ok-disk2.ensures; after = inr (record { given = c.in_ok-disk3.disk3; between = g.H.Host.history c.open_drive-4.new.host; done = c.in_ok-disk3.ensures; after = (are-not-open c.in_ok-disk0.disk0 c.in_ok-disk1.disk1 c.in_ok-disk2.disk2 c.in_ok-disk3.disk3 _ c.from_residual-in_err-saved2.ensures, refl) }) }) }) })
-
-pub returns-in_err-saved3 : goal.returns-in_err-saved3
-returns-in_err-saved3 g c = inr (record { given = c.in_ok-disk0.disk0; between = g.H.Host.history c.open_drive.new.host; done = c.in_ok-disk0.ensures; after = inr (record { given = c.in_ok-disk1.disk1; between = g.H.Host.history c.open_drive-2.new.host; done = c.in_ok-disk1.ensures; after = inr (record { given = c.in_ok-disk2.disk2; between = g.H.Host.history c.open_drive-3.new.host; done = c.in_ok-disk2.ensures; after = inr (record { given = c.in_ok-disk3.disk3; between = g.H.Host.history c.open_drive-4.new.host; done = c.in_ok-disk3.ensures; after = (are-not-open c.in_ok-disk0.disk0 c.in_ok-disk1.disk1 c.in_ok-disk2.disk2 c.in_ok-disk3.disk3 _ c.from_residual-in_err-saved3.ensures, refl) }) }) }) })
-
-pub returns-in_err-spare : goal.returns-in_err-spare
-returns-in_err-spare g c = inr (record { given = c.in_ok-disk0.disk0; between = g.H.Host.history c.open_drive.new.host; done = c.in_ok-disk0.ensures; after = inr (record { given = c.in_ok-disk1.disk1; between = g.H.Host.history c.open_drive-2.new.host; done = c.in_ok-disk1.ensures; after = inr (record { given = c.in_ok-disk2.disk2; between = g.H.Host.history c.open_drive-3.new.host; done = c.in_ok-disk2.ensures; after = inr (record { given = c.in_ok-disk3.disk3; between = g.H.Host.history c.open_drive-4.new.host; done = c.in_ok-disk3.ensures; after = (are-not-open c.in_ok-disk0.disk0 c.in_ok-disk1.disk1 c.in_ok-disk2.disk2 c.in_ok-disk3.disk3 _ c.from_residual-in_err-spare.ensures, refl) }) }) }) })
+pub returns-in_err-rooms : goal.returns-in_err-rooms
+returns-in_err-rooms g c = inr (record { given = c.in_ok-disk0.disk0; between = g.H.Host.history c.open_drive.new.host; done = c.in_ok-disk0.ensures; after = inr (record { given = c.in_ok-disk1.disk1; between = g.H.Host.history c.open_drive-2.new.host; done = c.in_ok-disk1.ensures; after = inr (record { given = c.in_ok-disk2.disk2; between = g.H.Host.history c.open_drive-3.new.host; done = c.in_ok-disk2.ensures; after = inr (record { given = c.in_ok-disk3.disk3; between = g.H.Host.history c.open_drive-4.new.host; done = c.in_ok-disk3.ensures; after = (are-not-open c.in_ok-disk0.disk0 c.in_ok-disk1.disk1 c.in_ok-disk2.disk2 c.in_ok-disk3.disk3 _ c.from_residual-in_err-rooms.ensures, refl) }) }) }) })
 
 pub returns : goal.returns
-returns g c = inr (record { given = c.in_ok-disk0.disk0; between = g.H.Host.history c.open_drive.new.host; done = c.in_ok-disk0.ensures; after = inr (record { given = c.in_ok-disk1.disk1; between = g.H.Host.history c.open_drive-2.new.host; done = c.in_ok-disk1.ensures; after = inr (record { given = c.in_ok-disk2.disk2; between = g.H.Host.history c.open_drive-3.new.host; done = c.in_ok-disk2.ensures; after = inr (record { given = c.in_ok-disk3.disk3; between = g.H.Host.history c.open_drive-4.new.host; done = c.in_ok-disk3.ensures; after = ((refl, refl, refl, refl, (c.in_ok-saved0.ensures, c.in_ok-saved1.ensures, c.in_ok-saved2.ensures, c.in_ok-saved3.ensures)), refl) }) }) }) })
+returns g c = inr (record { given = c.in_ok-disk0.disk0; between = g.H.Host.history c.open_drive.new.host; done = c.in_ok-disk0.ensures; after = inr (record { given = c.in_ok-disk1.disk1; between = g.H.Host.history c.open_drive-2.new.host; done = c.in_ok-disk1.ensures; after = inr (record { given = c.in_ok-disk2.disk2; between = g.H.Host.history c.open_drive-3.new.host; done = c.in_ok-disk2.ensures; after = inr (record { given = c.in_ok-disk3.disk3; between = g.H.Host.history c.open_drive-4.new.host; done = c.in_ok-disk3.ensures; after = ((refl, refl, refl, refl, c.in_ok-rooms.ensures), refl) }) }) }) })

@@ -1,3 +1,0 @@
-mod KeepLemmas
-mod ReadyLemmas
-mod RoundLemmas

@@ -1,0 +1,82 @@
+//! A whole 8/E at whose keyboard small letters may be struck as capitals.
+ghost use Rattle.std.specs.Prelude.{◌≡◌};
+ghost use Rattle.drive_files.specs.Consoles as spec;
+
+use cpu8::Stepped;
+use pdp8e::Machine;
+use program_tasks::ConsoleForm;
+use terminal8e::TerminalMachine;
+
+/// A machine, and whether small letters are struck as capitals at its keyboard.
+#[derive(Drop)]
+pub struct Console {
+    pub machine: Machine,
+    pub has_capitals: bool,
+
+    /// How many steps, modulo 2^64, found a transfer of the disk under way and left none.
+    pub transfers: u64,
+}
+
+/// A machine at the console, before its first step.
+pub fn console_with(form: &ConsoleForm, machine: Machine) -> Console
+    ensures { result ≡ spec.console_with form.now machine }
+{
+    Console {
+        machine,
+        has_capitals: form.has_capitals,
+        transfers: 0,
+    }
+}
+
+impl Console {
+    /// Whether its program waits for a key, and no transfer is under way.
+    pub(crate) fn is_at_wait(&self) -> bool
+        ensures { result ≡ spec.is_at_wait self.now }
+    {
+        self.machine.asks_for_key(0) && !self.machine.disk().is_busy()
+    }
+}
+
+impl TerminalMachine for Console {
+    ghost use Rattle.drive_files.specs.Consoles.{console_acts};
+
+    ghost acts = { console_acts };
+
+    fn is_running(&self) -> bool {
+        self.machine.is_running()
+    }
+
+    #[inline]
+    fn asks_for_key(&self, since: u64) -> bool {
+        self.machine.asks_for_key(since)
+    }
+
+    fn waits_for_key(&self) -> bool {
+        self.machine.waits_for_key()
+    }
+
+    fn strike_key(&mut self, character: u8) {
+        self.machine.key(key_of(self.has_capitals, character));
+    }
+
+    #[inline]
+    fn make_step(&mut self) -> Stepped {
+        let was_busy = self.machine.disk().is_busy();
+        let did = self.machine.make_step();
+        if was_busy && !self.machine.disk().is_busy() {
+            self.transfers = self.transfers.wrapping_add(1);
+        }
+        did
+    }
+}
+
+/// The key that is struck for a character, whose top bit stays.
+fn key_of(has_capitals: bool, character: u8) -> u8
+    ensures { result ≡ spec.key_of has_capitals character }
+{
+    let letter = character % 0o200;
+    if has_capitals && (letter >= b'a' && letter <= b'z') {
+        return character - 0o40;
+    }
+    character
+}
