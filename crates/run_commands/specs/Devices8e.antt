@@ -1,11 +1,11 @@
 -- The tape in the reader of an 8/E, its clock, and the files that get what is punched and printed on the line printer (this project's profile).
-use Rattle.std.specs.Prelude.{◌≡◌, ◌⊎◌, ℕ, Bool, true, false, ◌||◌, if◌then◌else◌, is_some, Option, None, Some, Result, Ok, Err, String, List, [], ◌∷◌}
+use Rattle.std.specs.Prelude.{◌≡◌, ◌⊎◌, ◌<◌, ℕ, Bool, true, false, ◌||◌, if◌then◌else◌, is_some, Option, None, Some, Result, Ok, Err, String, List, [], ◌∷◌}
 use Rattle.std.specs.Global.{Global, Vec}
 use Rattle.pdp8e.specs.State.{Pdp8e, with_tape, with_paper, with_clock}
 use Rattle.trace8e.specs.Papers.{PaperState, PapersState, new_paper}
 use Rattle.hosts.specs.Event.{Event, there_call}
 use Rattle.hosts.specs.Faults.{fault_number}
-use Rattle.hosts.specs.Streams.{failures}
+use Rattle.hosts.specs.Streams.{failures, last_fault}
 use Rattle.hosts.specs.declared.faults.FaultClass.TheVariants as class
 use Rattle.hosts.specs.declared.faults.HostFault.{HostFault}
 use Rattle.hosts.specs.declared.faults.Unwritten.TheVariants.{AsItWas}
@@ -13,12 +13,11 @@ use Rattle.hosts.specs.declared.holding.Held.{Held}
 use Rattle.program_tasks.specs.declared.devices.DeviceForm.{DeviceForm}
 use Rattle.refusals.specs.declared.faults.SessionFault.TheVariants.{Memory}
 use Rattle.outcome.specs.declared.contents.Content.TheVariants.{Tape}
-use Rattle.outcome.specs.declared.reasons.Reason.TheVariants as reason
 use Rattle.outcome.specs.declared.endings.Ending.{Ending}
 use Rattle.outcome.specs.declared.endings.Ending.TheVariants.{Fault}
 use Rattle.image_files.specs.Making.{MakesFile, ending_of_file}
-use Rattle.image_files.specs.Reading.{Looks, hold_calls}
-use Rattle.image_files.specs.Reasons.{TellsReason}
+use Rattle.image_files.specs.Reading.{IsIdle, Looks, hold_calls}
+use Rattle.image_files.specs.Reasons.{TellsFault}
 use Rattle.image_files.specs.Saving.{IsDone, Writes}
 use Rattle.image_files.specs.Work.{Then, Purely, Lacks, IsJust}
 use Rattle.drive_files.specs.Saving.{SavesNothing, earlier}
@@ -40,10 +39,18 @@ ReadsTape (Some name) = Then (Looks name.bytes.items name.bytes.items) (λ frame
 abbrev pub ending_of_paper : HostFault → Ending
 ending_of_paper fault = ending_of_file Tape fault
 
+-- a call for the file of a paper failed by this fault, which is printed; nothing is changed or read
+pub record LacksPaper (name : List ℕ) (fault : HostFault) (old new : List Event) : Type 0 where
+  pub between : List Event
+  pub idle : IsIdle old between
+  pub failed : failures old < failures between
+  pub last : last_fault between ≡ fault_number fault
+  pub tells : TellsFault fault name between new
+
 -- the file of a paper is held, or why not is printed
 abbrev pub HoldsPaper : List ℕ → List Event → Result Held Ending → List Event → Type 0
 HoldsPaper name old (Ok held) new = new ≡ hold_calls name held.path.bytes.items held.has_lock old
-HoldsPaper name old (Err ending) new = (fault : HostFault) × (between : List Event) × (ending ≡ ending_of_paper fault) × TellsReason (reason.Fault fault) name between new
+HoldsPaper name old (Err ending) new = (fault : HostFault) × (ending ≡ ending_of_paper fault) × LacksPaper name fault old new
 
 -- an empty file is made where there is none
 abbrev pub MakesNone : Bool → List ℕ → List Event → Result (Unit {0}) Ending → List Event → Type 0

@@ -5,8 +5,8 @@ ghost use Rattle.run_commands.specs.Devices8e.{EmptiesPaper, HoldsPaper, MakesPa
 
 use drive_files::earlier;
 use hosts::{FaultClass, Held, Host, HostFault, Unwritten, hold_file};
-use image_files::{look_file, make_file, tell_reason, write_file};
-use outcome::{Content, Ending, Reason};
+use image_files::{look_file, make_file, tell_fault, write_file};
+use outcome::{Content, Ending};
 use pdp8e::Machine;
 use program_tasks::DeviceForm;
 use refusals::SessionFault;
@@ -106,14 +106,14 @@ fn make_paper<H: Host>(host: &mut H, alloc: Global, name: &str) -> Result<(), En
     make_file(host, alloc, Content::Tape, name, b"")
 }
 
-/// Holds the file of a paper. Why it can't be held is printed.
+/// Holds the file of a paper. Why it can't be held is printed, unless memory is wanted.
 fn hold_paper<H: Host>(host: &mut H, alloc: Global, name: &str) -> Result<Held, Ending>
     ensures { HoldsPaper name.now (H.history host.old) result (H.history host.new) }
 {
     match hold_file(host, alloc, name) {
         Ok(held) => Ok(held),
         Err(fault) => {
-            tell_reason(host, alloc, name, Reason::Fault(fault));
+            tell_fault(host, alloc, name, fault);
             Err(ending_of_paper(fault))
         }
     }
