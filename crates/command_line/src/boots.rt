@@ -29,12 +29,7 @@ pub fn boot(alloc: Global, found: &ArgMatches<'_>) -> Read<Task>
 }
 
 /// How a machine is to run at the console, with the disk of drive 0 that this argument gives.
-pub fn console_of(
-    alloc: Global,
-    found: &ArgMatches<'_>,
-    verb: Verb,
-    id: &str,
-) -> Read<ConsoleForm>
+pub fn console_of(alloc: Global, found: &ArgMatches<'_>, verb: Verb, id: &str) -> Read<ConsoleForm>
     requires drive0 { takes_text (kind_at id.now (rows_for verb)) ≡ true }
     requires drive1 { takes_text (kind_at (codes "rk1") (rows_for verb)) ≡ true }
     requires drive2 { takes_text (kind_at (codes "rk2") (rows_for verb)) ≡ true }

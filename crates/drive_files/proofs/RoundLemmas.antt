@@ -20,7 +20,7 @@ use Rattle.image_files.specs.Saving.{IsDone}
 use Rattle.drive_files.specs.Inputs.{form_of, input_of}
 use Rattle.drive_files.specs.declared.mounting.Places.{Places}
 use Rattle.drive_files.proofs.OutputLemmas.{saves-text}
-use Rattle.drive_files.specs.Rounds.{AsksForEnd, AsksThen, DoesAfter, DoesBetween, EndsOrBreaks, IsBroken, SavedPlaces, Rounds, RunsRounds, none_saved, console_at}
+use Rattle.drive_files.specs.Rounds.{AsksForEnd, AsksThen, DoesAfter, DoesBetween, EndsOrBreaks, IsBroken, SavedPlaces, Rounds, RunsRounds, none_saved}
 use Rattle.drive_files.specs.declared.rounds.Ran.{Ran}
 use Rattle.drive_files.specs.Consoles.{console_acts}
 use Rattle.drive_files.specs.declared.consoles.Console.{Console}

@@ -1,5 +1,5 @@
 -- At each moment of a save the file is the old one or the new one.
-use Rattle.std.proofs.Common.{◌≡◌, ◌⊎◌, ℕ, Bool, true, false, Result, Ok, Err, List, inl, inr}
+use Rattle.std.proofs.Common.{◌⊎◌, ℕ, Bool, true, false, Result, Ok, Err, List, inl, inr}
 use Rattle.std.specs.Str.{bytes_eq}
 use Rattle.hosts.specs.Event.{Event}
 use Rattle.hosts.specs.Place.{about}

@@ -8,7 +8,8 @@ ghost use Rattle.terminal8.specs.declared.outcomes.TerminalFault.TheVariants as 
 ghost use Rattle.hosts.specs.Streams.{output_text};
 ghost use Rattle.host_output.specs.Printing.{HasPrinted};
 ghost use Rattle.image_files.specs.Saving.{IsDone};
-ghost use Rattle.drive_files.specs.Rounds.{AsksForEnd, DoesBetween, RunsRounds};
+ghost use Rattle.drive_files.specs.Rounds.{AsksForEnd, DoesBetween, RunsRounds, last_after};
+ghost use Rattle.drive_files.specs.Saving.{SavesDrives};
 ghost use Rattle.drive_files.specs.Rounds as spec;
 ghost use Rattle.drive_files.specs.Consoles.{console_acts};
 
@@ -185,15 +186,43 @@ fn pause<H: Host>(
     ensures does { DoesBetween form.now steps console.old (places.old, last.old) (places.new, last.new) (H.history host.old) result (H.history host.new) }
     ensures console { console.new ≡ console.old }
 {
-    if is_due(form, steps, console, last) {
-        let saves = places.saves;
-        save_drives(host, alloc, &mut console.machine, places)?;
-        if places.saves != saves {
-            last.steps = steps;
-        }
-        last.transfers = console.transfers;
+    if !is_due(form, steps, console, last) {
+        return Ok(asks_for_end(host, &form.ends_with));
     }
-    Ok(asks_for_end(host, &form.ends_with))
+    match save_there(host, alloc, steps, console, places, last) {
+        Ok(()) => Ok(asks_for_end(host, &form.ends_with)),
+        Err(ending) => Err(ending),
+    }
+}
+
+/// Saves the disks after so many steps. It counts as the last save where a file was written, and as the last one that was tried where none failed.
+fn save_there<H: Host>(
+    host: &mut H,
+    alloc: Global,
+    steps: u64,
+    console: &mut Console,
+    places: &mut Places,
+    last: &mut LastSave,
+) -> Result<(), Ending>
+    ensures saves { SavesDrives console.old.machine.disk places.old places.new (H.history host.old) result (H.history host.new) }
+    ensures last { last.new ≡ last_after result steps console.old places.new (places.old, last.old) }
+    ensures console { console.new ≡ console.old }
+{
+    let saves = places.saves;
+    match save_drives(host, alloc, &mut console.machine, places) {
+        Ok(()) => {
+            *last = LastSave {
+                steps: if places.saves == saves {
+                    last.steps
+                } else {
+                    steps
+                },
+                transfers: console.transfers,
+            };
+            Ok(())
+        }
+        Err(ending) => Err(ending),
+    }
 }
 
 /// Whether a save is due: the program waits for a key, so many instructions were made since the last one, and disks may have changed.

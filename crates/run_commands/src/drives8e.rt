@@ -30,7 +30,11 @@ use trace8::TraceFault;
 use trace8e::{Papers, count_fetches, trace};
 
 /// A machine with these disks that stands where a program starts, and where the files of the disks are held.
-pub(crate) fn machine_of(form: &DiskForm, drives: OpenDrives, program: CoreProgram) -> (Machine, Places)
+pub(crate) fn machine_of(
+    form: &DiskForm,
+    drives: OpenDrives,
+    program: CoreProgram,
+) -> (Machine, Places)
     ensures machine { result.0 ≡ spec.machine_of form.now drives program }
     ensures places { result.1 ≡ places_of drives }
 {

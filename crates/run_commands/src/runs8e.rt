@@ -58,11 +58,7 @@ fn run_disks<H: Host, I: ByteReader>(
 }
 
 /// The machine of a program, with these disks, and where their files are held.
-fn loaded_console(
-    form: &ConsoleForm,
-    drives: OpenDrives,
-    program: CoreProgram,
-) -> (Console, Places)
+fn loaded_console(form: &ConsoleForm, drives: OpenDrives, program: CoreProgram) -> (Console, Places)
     ensures console { result.0 ≡ spec.loaded_console form.now drives program }
     ensures places { result.1 ≡ places_of drives }
 {

@@ -4,7 +4,7 @@ use Rattle.host_output.specs.Printing.{HasPrinted}
 use Rattle.image_files.specs.Saving.{IsDone}
 use Rattle.terminal8e.specs.Parts.{HasCome}
 use Rattle.drive_files.specs.Consoles.{console_acts}
-use Rattle.drive_files.specs.Rounds.{DoesBetween}
+use Rattle.drive_files.specs.Rounds.{DoesBetween, SavedPlaces}
 use Rattle.drive_files.specs.Inputs.{form_of, input_of}
 use Rattle.drive_files.proofs.RoundLemmas.{part-comes, come-on, next-made, between-text, ended-rounds, broken-by-print, broken-between, broken-runs, pause-within, pause-less, none-is}
 use Rattle.drive_files.proofs.rounds.run_rounds.Goals as goal
@@ -52,12 +52,12 @@ loop-fault-preserved g c =
     let after = g.H.Host.history c.pause.new.host in
     let is : part ≡ Ok None = c.in-Ok-None.is ∙ ap (λ x. Ok x) (rw (c.in-Ok-None.is) at c.in-Ok-None.field-0-is) in
     let less = pause-less c.unwrap_or-most.result 1048576 c.soonest_pause-soonest.result c.loop-fault.sitting c.make_round-given.new.sitting part is c.make_round-given.ensures.pause in
-    let mid = (c.loop-fault.places, c.loop-fault.last) in
-    let kept = (c.pause.new.places, c.pause.new.last) in
+    let mid : SavedPlaces = (c.loop-fault.places, c.loop-fault.last) in
+    let kept : SavedPlaces = (c.pause.new.places, c.pause.new.last) in
     let steps = c.make_round-given.new.sitting.steps in
     let come = part-comes (form_of f.is_raw) (input_of f.is_live) _ _ _ _ _ _ _ _ _ _ _ _ _ part (Ok None) c.loop-fault.invariant.input is (c.make_round-given.ensures.runs _ _ _ _) c.loop-fault.invariant.come in
-    let there = subst (λ b. DoesBetween f c.steps.result c.make_round-given.new.console mid kept before (Ok b) after) c.in-Ok-false.field-0-test (c.in-Ok-false.ensures {u = tt}).does in
-    let does = subst (λ k. DoesBetween f k c.make_round-given.new.console mid kept before (Ok false) after) c.steps.ensures there in
+    let there = subst (λ b. DoesBetween f c.steps-steps.result c.make_round-given.new.console mid kept before (Ok b) after) c.in-Ok-false.field-0-test (c.in-Ok-false.ensures {u = tt}).does in
+    let does = subst (λ k. DoesBetween f k c.make_round-given.new.console mid kept before (Ok false) after) c.steps-steps.ensures there in
     let none = none-is c.make_round-given.result.1 (sym c.is_some.ensures ∙ c.if-is_some.false) in
     record {
       come = subst (λ s. HasCome console_acts (form_of f.is_raw) (input_of f.is_live) c.args.console.now s c.make_round-given.new.sitting (g.I.ByteReader.remaining c.args.keys.now)
@@ -77,12 +77,12 @@ returns-in-Ok-true g c =
     let after = g.H.Host.history c.pause.new.host in
     let is : part ≡ Ok None = c.in-Ok-None.is ∙ ap (λ x. Ok x) (rw (c.in-Ok-None.is) at c.in-Ok-None.field-0-is) in
     let less = pause-less c.unwrap_or-most.result 1048576 c.soonest_pause-soonest.result c.loop-fault.sitting c.make_round-given.new.sitting part is c.make_round-given.ensures.pause in
-    let mid = (c.loop-fault.places, c.loop-fault.last) in
-    let kept = (c.pause.new.places, c.pause.new.last) in
+    let mid : SavedPlaces = (c.loop-fault.places, c.loop-fault.last) in
+    let kept : SavedPlaces = (c.pause.new.places, c.pause.new.last) in
     let steps = c.make_round-given.new.sitting.steps in
     let come = part-comes (form_of f.is_raw) (input_of f.is_live) _ _ _ _ _ _ _ _ _ _ _ _ _ part (Ok None) c.loop-fault.invariant.input is (c.make_round-given.ensures.runs _ _ _ _) c.loop-fault.invariant.come in
-    let there = subst (λ b. DoesBetween f c.steps.result c.make_round-given.new.console mid kept before (Ok b) after) c.in-Ok-true.field-0-test (c.in-Ok-true.ensures {u = tt}).does in
-    let does = subst (λ k. DoesBetween f k c.make_round-given.new.console mid kept before (Ok true) after) c.steps.ensures there in
+    let there = subst (λ b. DoesBetween f c.steps-steps.result c.make_round-given.new.console mid kept before (Ok b) after) c.in-Ok-true.field-0-test (c.in-Ok-true.ensures {u = tt}).does in
+    let does = subst (λ k. DoesBetween f k c.make_round-given.new.console mid kept before (Ok true) after) c.steps-steps.ensures there in
     let none = none-is c.make_round-given.result.1 (sym c.is_some.ensures ∙ c.if-is_some.false) in
     let on = come-on _ _ _ _ _ _ _ _ before after come (between-text f steps c.make_round-given.new.console mid kept before (Ok true) after does) in
     let now = subst (λ s. HasCome console_acts (form_of f.is_raw) (input_of f.is_live) c.args.console.now s c.make_round-given.new.sitting (g.I.ByteReader.remaining c.args.keys.now)
@@ -102,11 +102,11 @@ returns-in-Err-pause g c =
     let after = g.H.Host.history c.pause.new.host in
     let is : part ≡ Ok None = c.in-Ok-None.is ∙ ap (λ x. Ok x) (rw (c.in-Ok-None.is) at c.in-Ok-None.field-0-is) in
     let less = pause-less c.unwrap_or-most.result 1048576 c.soonest_pause-soonest.result c.loop-fault.sitting c.make_round-given.new.sitting part is c.make_round-given.ensures.pause in
-    let mid = (c.loop-fault.places, c.loop-fault.last) in
-    let kept = (c.pause.new.places, c.pause.new.last) in
+    let mid : SavedPlaces = (c.loop-fault.places, c.loop-fault.last) in
+    let kept : SavedPlaces = (c.pause.new.places, c.pause.new.last) in
     let steps = c.make_round-given.new.sitting.steps in
     let come = part-comes (form_of f.is_raw) (input_of f.is_live) _ _ _ _ _ _ _ _ _ _ _ _ _ part (Ok None) c.loop-fault.invariant.input is (c.make_round-given.ensures.runs _ _ _ _) c.loop-fault.invariant.come in
-    let does = subst (λ k. DoesBetween f k c.make_round-given.new.console mid kept before (Err c.in-Err-pause.ending) after) c.steps.ensures (c.in-Err-pause.ensures {u = tt}).does in
+    let does = subst (λ k. DoesBetween f k c.make_round-given.new.console mid kept before (Err c.in-Err-pause.ending) after) c.steps-steps.ensures (c.in-Err-pause.ensures {u = tt}).does in
     let none = none-is c.make_round-given.result.1 (sym c.is_some.ensures ∙ c.if-is_some.false) in
     let on = come-on _ _ _ _ _ _ _ _ before after come (between-text f steps c.make_round-given.new.console mid kept before (Err c.in-Err-pause.ending) after does) in
     let now = subst (λ s. HasCome console_acts (form_of f.is_raw) (input_of f.is_live) c.args.console.now s c.make_round-given.new.sitting (g.I.ByteReader.remaining c.args.keys.now)
