@@ -10,7 +10,6 @@ use Rattle.hosts.specs.declared.faults.PrintFault.{PrintFault}
 use Rattle.host_output.specs.Printing.{HasPrinted}
 use Rattle.terminal8.specs.declared.outcomes.Ended.{Ended}
 use Rattle.terminal8.specs.declared.outcomes.TerminalFault.{TerminalFault}
-use Rattle.terminal8.specs.declared.outcomes.TerminalFault.TheVariants.{Reader, Writer}
 use Rattle.trace8.specs.declared.faults.TraceFault.{TraceFault}
 use Rattle.trace8.specs.declared.faults.TraceFault.TheVariants as trace
 use Rattle.cpu8.specs.State.{next_cell}
@@ -51,7 +50,7 @@ use Rattle.run_commands.specs.Machines8i as pdp8i
 use Rattle.run_commands.specs.Machines8e as pdp8e
 use Rattle.run_commands.specs.Devices8e.{OpensDevices, OpensPaper, ReadsTape, SavesPaper, SavesPapers, has_papers, open_devices}
 use Rattle.run_commands.specs.Drives8e.{IsStation, OpensStation, PrintsIf, ProfilesDrives, ProfilesSaving, TracesDrives, TracesSaving}
-use Rattle.run_commands.specs.Printing.{EndsRun, EndsTrace, GivesProfile, PrintsRun, PrintsTrace}
+use Rattle.run_commands.specs.Printing.{EndsTrace, GivesProfile, PrintsRun, PrintsTrace}
 use Rattle.run_commands.specs.Profiles.{ProfilesOn, ProfilesPlain, ProfilesTape}
 use Rattle.run_commands.specs.Runs.{IsReady, ReadsRun, start_or}
 use Rattle.run_commands.specs.Runs8e.{RunsDisks, RunsOn8e, loaded_console, needs_console}

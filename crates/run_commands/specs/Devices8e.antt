@@ -6,9 +6,7 @@ use Rattle.trace8e.specs.Papers.{PaperState, PapersState, new_paper}
 use Rattle.hosts.specs.Event.{Event, there_call}
 use Rattle.hosts.specs.Faults.{fault_number}
 use Rattle.hosts.specs.Streams.{failures, last_fault}
-use Rattle.hosts.specs.declared.faults.FaultClass.TheVariants as class
 use Rattle.hosts.specs.declared.faults.HostFault.{HostFault}
-use Rattle.hosts.specs.declared.faults.Unwritten.TheVariants.{AsItWas}
 use Rattle.hosts.specs.declared.holding.Held.{Held}
 use Rattle.program_tasks.specs.declared.devices.DeviceForm.{DeviceForm}
 use Rattle.refusals.specs.declared.faults.SessionFault.TheVariants.{Memory}
@@ -18,7 +16,7 @@ use Rattle.outcome.specs.declared.endings.Ending.TheVariants.{Fault}
 use Rattle.image_files.specs.Making.{MakesFile, ending_of_file}
 use Rattle.image_files.specs.Reading.{IsIdle, Looks, hold_calls}
 use Rattle.image_files.specs.Reasons.{TellsFault}
-use Rattle.image_files.specs.Saving.{IsDone, Writes}
+use Rattle.image_files.specs.Saving.{Writes}
 use Rattle.image_files.specs.Work.{Then, Purely, Lacks, IsJust}
 use Rattle.drive_files.specs.Saving.{SavesNothing, earlier}
 use Rattle.run_commands.specs.declared.devices8e.OpenDevices.{OpenDevices}

@@ -8,7 +8,7 @@ use Rattle.pdp8e.specs.State.{Pdp8e, after_start, new_machine, switches_set}
 use Rattle.pdp8e.specs.Terminal.{Terminal, IsRun, later, terminal_with_keys}
 use Rattle.terminal8.specs.declared.outcomes.Ended.{Ended}
 use Rattle.trace8e.specs.Tracing.{Traces}
-use Rattle.trace8e.specs.Papers.{PapersState, GetSteps, GetSome, GetTraced}
+use Rattle.trace8e.specs.Papers.{PapersState, GetSome, GetTraced}
 use Rattle.trace8e.specs.Counts.{AreCounts}
 use Rattle.trace8.specs.declared.faults.TraceFault.{TraceFault}
 use Rattle.trace8.specs.declared.faults.TraceFault.TheVariants as trace

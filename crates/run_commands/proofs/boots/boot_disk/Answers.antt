@@ -1,4 +1,4 @@
-use Rattle.std.proofs.Common.{inr, sym, ◌∙◌, ap}
+use Rattle.std.proofs.Common.{inr, ◌∙◌, ap}
 use Rattle.drive_files.specs.Consoles.{console_acts}
 use Rattle.run_commands.proofs.ReadyLemmas.{boot-runs}
 use Rattle.run_commands.proofs.boots.boot_disk.Goals as goal

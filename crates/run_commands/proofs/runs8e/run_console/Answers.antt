@@ -1,8 +1,4 @@
-use Rattle.std.proofs.Common.{sym, subst}
-use Rattle.byte_reader.specs.Readings.{reading}
-use Rattle.run_commands.specs.Machines8e.{stand_of}
-use Rattle.run_commands.specs.Printing.{EndsRun}
-use Rattle.drive_files.specs.Rounds.{RunsRounds}
+use Rattle.std.proofs.Common.{sym}
 use Rattle.run_commands.proofs.runs8e.run_console.Goals as goal
 
 pub returns : goal.returns
