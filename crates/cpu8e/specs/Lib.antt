@@ -6,5 +6,7 @@ pub mod Fields
 pub mod Step
 pub mod Common
 pub mod Runs
+pub mod Unasked
+pub mod QuickSteps
 pub mod User
 pub mod Lending

@@ -25,6 +25,14 @@ after_keys keys (suc k) s = (printing_step (with_key (keys k) (after_keys keys k
 abbrev pub answer_with_keys : (ℕ → Option ℕ) → ℕ → State8e → Stepped
 answer_with_keys keys k s = (printing_step (with_key (keys k) (after_keys keys k s))).1
 
+-- the machine after so many steps without a key
+abbrev pub after : ℕ → State8e → State8e
+after k s = after_keys (λ _. None) k s
+
+-- what the step after the first k did
+abbrev pub answer : ℕ → State8e → Stepped
+answer k s = answer_with_keys (λ _. None) k s
+
 -- ## The same on the 8/I
 
 abbrev pub with_key_8i : Option ℕ → State → State

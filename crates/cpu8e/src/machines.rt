@@ -10,6 +10,7 @@ use std::marker::Model;
 use word12::{Cell, Word};
 
 mod registers;
+mod runs;
 
 /// A PDP-8/E with 0o100000 words of core, a KM8-E memory extension, a KL8-E console and no EAE (Small Computer Handbook).
 #[derive(Drop)]

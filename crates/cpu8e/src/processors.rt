@@ -14,6 +14,7 @@ mod consoles;
 mod controls;
 mod fields;
 mod operates;
+mod quick;
 mod rows;
 
 /// All of a machine but its core. A contract sees a state with no words of core.

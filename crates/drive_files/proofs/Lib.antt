@@ -3,4 +3,5 @@ pub mod OutputLemmas
 mod SaveLemmas
 pub mod KeepLemmas
 pub mod RestoreLemmas
+mod QuickLemmas
 mod RoundLemmas

@@ -5,7 +5,7 @@ ghost use Rattle.drive_files.specs.Consoles as spec;
 use cpu8::Stepped;
 use pdp8e::Machine;
 use program_tasks::ConsoleForm;
-use terminal8e::TerminalMachine;
+use terminal8e::{TerminalMachine, steps_before_look};
 
 /// A machine, and whether small letters are struck as capitals at its keyboard.
 #[derive(Drop)]
@@ -67,6 +67,12 @@ impl TerminalMachine for Console {
             self.transfers = self.transfers.wrapping_add(1);
         }
         did
+    }
+
+    #[inline]
+    fn make_quick_steps(&mut self, since: u64, n: u64) -> u64 {
+        let most = steps_before_look(since, self.machine.processor(), n);
+        self.machine.run_unasked(most) as u64
     }
 }
 

@@ -17,7 +17,7 @@ use Rattle.pdp8e.proofs.StillLemmas.{alone, either, if_false, still_step}
 abbrev pub Requests : Type 0
 Requests = (s : State8e) → (Cpu.step s).0.device_request ≡ s.device_request
 
-cpu_stopped : (s : State8e) → s.base.running ≡ false → Cpu.step s ≡ (s, Stopped)
+pub cpu_stopped : (s : State8e) → s.base.running ≡ false → Cpu.step s ≡ (s, Stopped)
 unfolding Cpu.step
 cpu_stopped s stopped =
     if_false s.base.running _ (s, Stopped) stopped
@@ -44,16 +44,16 @@ key_requests : (key : Option ℕ) (s : State8e) → (CpuRuns.with_key key s).dev
 key_requests None s = refl
 key_requests (Some key) s = refl
 
-ended_alone : (busy : Bool) (m : Pdp8e) (s : State8e)
+pub ended_alone : (busy : Bool) (m : Pdp8e) (s : State8e)
     → (if busy then printer_done (with_processor m s) else with_processor m s) ≡ with_processor m (if busy then CpuState.printer_done s else s)
 ended_alone true m s = refl
 ended_alone false m s = refl
 
-ended_requests : (busy : Bool) (s : State8e) → (if busy then CpuState.printer_done s else s).device_request ≡ s.device_request
+pub ended_requests : (busy : Bool) (s : State8e) → (if busy then CpuState.printer_done s else s).device_request ≡ s.device_request
 ended_requests true s = refl
 ended_requests false s = refl
 
-ended_word : (busy : Bool) (s : State8e) → next_word (if busy then CpuState.printer_done s else s) ≡ next_word s
+pub ended_word : (busy : Bool) (s : State8e) → next_word (if busy then CpuState.printer_done s else s) ≡ next_word s
 ended_word true s = refl
 ended_word false s = refl
 
@@ -66,7 +66,7 @@ printing_alone stays m s is still other =
     ∙ ap (λ (r : Pdp8e × Stepped). r.0)
     (step_alone stays (with_processor m t) (ended_requests busy s ∙ is) still (ap (λ w. is_for_devices w) (ended_word busy s) ∙ other))
 
-run_requests : Requests → (keys : ℕ → Option ℕ) (k : ℕ) (s : State8e) → (CpuRuns.after_keys keys k s).device_request ≡ s.device_request
+pub run_requests : Requests → (keys : ℕ → Option ℕ) (k : ℕ) (s : State8e) → (CpuRuns.after_keys keys k s).device_request ≡ s.device_request
 unfolding CpuRuns.after_keys
 run_requests stays keys zero s = refl
 run_requests stays keys (suc k) s =

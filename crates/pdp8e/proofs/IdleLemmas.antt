@@ -1,5 +1,5 @@
 -- Devices that are idle and request nothing change no step.
-use Rattle.std.proofs.Common.{◌≡◌, ℕ, Bool, true, false, ◌&&◌, ◌||◌, not, if◌then◌else◌, None, refl, ap, sym, ◌∙◌}
+use Rattle.std.proofs.Common.{◌≡◌, ℕ, Bool, false, ◌&&◌, ◌||◌, not, None, ap, sym, ◌∙◌}
 use Rattle.cpu8.specs.declared.outcomes.Stepped.{Stepped}
 use Rattle.cpu8.specs.declared.outcomes.Stepped.TheVariants.{Stopped, Interrupted, Ran}
 use Rattle.rk8e.specs.State.{DiskState}
@@ -8,10 +8,10 @@ use Rattle.rk8e.specs.Transfer.{after_ends}
 use Rattle.cpu8e.specs.State.{State8e, grants_interrupt, with_core, with_request}
 use Rattle.cpu8e.specs.Step.{next_word, after_interrupt}
 use Rattle.cpu8e.specs.Step as Cpu
-use Rattle.pdp8e.specs.Devices.{DevicesState, new_devices, devices_ended, are_requesting}
+use Rattle.pdp8e.specs.Devices.{DevicesState, new_devices, are_requesting}
 use Rattle.pdp8e.specs.DeviceInstructions.{is_device_word}
 use Rattle.pdp8e.specs.State.{Pdp8e, machine_of, with_processor}
-use Rattle.pdp8e.specs.Step.{at_beginning, going_on, is_disk_word, is_caf, after_instruction, after_other, disk_row, device_row, processor_row, passing, step}
+use Rattle.pdp8e.specs.Step.{at_beginning, going_on, is_disk_word, is_caf, after_instruction, after_other, disk_row, passing, step}
 use Rattle.pdp8e.specs.Laws.{having, having_after}
 use Rattle.pdp8e.proofs.StillLemmas.{AreIdle, either, if_false, if_true, no_device_ends, no_device_time}
 

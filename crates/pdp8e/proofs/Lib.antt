@@ -4,6 +4,8 @@ pub mod TimeLemmas
 pub mod AloneLemmas
 pub mod BootLemmas
 pub mod UserLemmas
+pub mod LastLemmas
+pub mod QuickLemmas
 pub mod WaitLemmas
 pub mod PartLemmas
 pub mod WordLemmas

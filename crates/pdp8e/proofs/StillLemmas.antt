@@ -1,5 +1,5 @@
 -- A step while nothing is under way on disk and devices is one of the processor alone.
-use Rattle.std.proofs.Common.{◌≡◌, ℕ, Bool, true, false, true≢false, ◌&&◌, ◌||◌, not, nat_le, is_none, is_some, if◌then◌else◌, List, Option, Some, None, refl, ap, sym, ◌∙◌}
+use Rattle.std.proofs.Common.{◌≡◌, ℕ, Bool, true, false, true≢false, ◌&&◌, ◌||◌, not, nat_le, is_none, if◌then◌else◌, List, Option, Some, None, refl, ap, sym, ◌∙◌}
 use Rattle.std.proofs.lemmas.Bool.{and_parts}
 use Rattle.cpu8.specs.declared.outcomes.Stepped.{Stepped}
 use Rattle.cpu8.specs.declared.outcomes.Stepped.TheVariants.{Stopped, Interrupted}
@@ -12,7 +12,7 @@ use Rattle.cpu8e.specs.Step as Cpu
 use Rattle.pdp8e.specs.Devices.{DevicesState, ReaderState, WriterState, ClockState, reader_ended, writer_ended, clock_ended, devices_ended, devices_after, are_idle}
 use Rattle.pdp8e.specs.DeviceInstructions.{is_device_word}
 use Rattle.pdp8e.specs.State.{Pdp8e, IsJoined, is_still, is_quiet, machine_of, with_processor}
-use Rattle.pdp8e.specs.Step.{at_beginning, going_on, is_disk_word, is_caf, is_for_disk, is_for_devices, after_instruction, after_other, passing, step}
+use Rattle.pdp8e.specs.Step.{at_beginning, going_on, is_disk_word, is_caf, is_for_disk, is_for_devices, after_instruction, passing, step}
 
 -- ## No time is left
 
@@ -100,10 +100,10 @@ idle_is d h =
       clock = none_in d.clock.time_left c.1;
     }
 
-idle_reader : (r : ReaderState) → r.asked ≡ false → reader_ended r ≡ r
+pub idle_reader : (r : ReaderState) → r.asked ≡ false → reader_ended r ≡ r
 idle_reader r h = rw h refl
 
-idle_writer : (w : WriterState) → w.writing ≡ None → writer_ended w ≡ w
+pub idle_writer : (w : WriterState) → w.writing ≡ None → writer_ended w ≡ w
 idle_writer w h = rw h refl
 
 idle_clock : (c : ClockState) → c.time_left ≡ None → clock_ended c ≡ c
@@ -144,7 +144,7 @@ passed_still m s =
     ap (λ (d : DiskState). record (passing m) { disk = d }) (no_time m.disk s.disk)
     ∙ ap (λ (d : DevicesState). record m { devices = d }) (no_device_time m.devices s.devices)
 
-other_row : (m : Pdp8e) (w : ℕ) → is_disk_word w ≡ false → is_device_word w ≡ false → is_caf w ≡ false
+pub other_row : (m : Pdp8e) (w : ℕ) → is_disk_word w ≡ false → is_device_word w ≡ false → is_caf w ≡ false
     → (Cpu.after_instruction m.processor w).0.device_request ≡ m.processor.device_request → IsJoined m
     → after_instruction m w ≡ (with_processor m (Cpu.after_instruction m.processor w).0, (Cpu.after_instruction m.processor w).1)
 other_row m w not_disk not_device not_caf same is =
@@ -156,11 +156,11 @@ pub neither : (a b : Bool) → (a || b) ≡ false → (a ≡ false) × (b ≡ fa
 neither true b h = absurd (true≢false h)
 neither false b h = (refl, h)
 
-interrupted : (s : State8e) → s.base.running ≡ true → grants_interrupt s ≡ true → Cpu.step s ≡ (after_interrupt s, Interrupted)
+pub interrupted : (s : State8e) → s.base.running ≡ true → grants_interrupt s ≡ true → Cpu.step s ≡ (after_interrupt s, Interrupted)
 unfolding Cpu.step
 interrupted s runs grants = rw (runs, grants) refl
 
-executed : (s : State8e) → s.base.running ≡ true → grants_interrupt s ≡ false → Cpu.step s ≡ Cpu.after_instruction s (next_word s)
+pub executed : (s : State8e) → s.base.running ≡ true → grants_interrupt s ≡ false → Cpu.step s ≡ Cpu.after_instruction s (next_word s)
 unfolding Cpu.step
 executed s runs grants = rw (runs, grants) refl
 

@@ -1,23 +1,18 @@
 -- A machine that waits for a key, step by step.
-use Rattle.std.proofs.Common.{◌≡◌, inl, inr, ℕ, zero, suc, ◌/◌, true, false, None, ap, sym, subst, ◌∙◌, refl, arith}
+use Rattle.std.proofs.Common.{◌≡◌, inl, inr, ℕ, ◌/◌, true, false, None, ap, sym, subst, ◌∙◌, arith}
 use Rattle.std.proofs.lemmas.Bool.{and_parts}
 use Rattle.std.proofs.lemmas.Bool.Decides.{nat_tests}
 use Rattle.cpu8e.specs.State.{State8e}
 use Rattle.cpu8e.specs.Step.{next_word}
-use Rattle.cpu8e.specs.Runs as CpuRuns
+use Rattle.cpu8e.specs.Runs.{after}
 use Rattle.terminal8e.specs.Asks as Cpu
-use Rattle.terminal8e.specs.Laws.{IsInLoop, after}
+use Rattle.terminal8e.specs.Laws.{IsInLoop}
 use Rattle.terminal8e.proofs.WaitLemmas.{Waits, waits}
 use Rattle.pdp8e.specs.State.{Pdp8e, IsJoined, is_quiet}
 use Rattle.pdp8e.specs.Step.{is_for_devices}
 use Rattle.pdp8e.specs.Runs.{after_keys}
 use Rattle.pdp8e.specs.Asks.{waits_for_key, is_at_rest}
 use Rattle.pdp8e.proofs.AloneLemmas.{Requests, run_alone}
-
-same_after : (k : ℕ) (s : State8e) → after k s ≡ CpuRuns.after_keys (λ _. None) k s
-unfolding after CpuRuns.after_keys
-same_after zero s = refl
-same_after (suc k) s = ap (λ (x : State8e). (CpuRuns.printing_step x).0) (same_after k s)
 
 jmp_other : (w : ℕ) → w / 256 ≡ 10 → is_for_devices w ≡ false
 jmp_other w h = grind (arith, nat_tests)
@@ -34,7 +29,5 @@ waits_on stays loops m k is still h =
     let p = m.processor in
     let at = (and_parts (Cpu.waits_for_key p) (is_at_rest m) h).0 in
     let w = waits p at in
-    let loop : (j : ℕ) → IsInLoop p (CpuRuns.after_keys (λ _. None) j p) =
-    λ j. subst (λ (x : State8e). IsInLoop p x) (same_after j p) (loops p j at) in
-    let run = run_alone stays (λ _. None) k m is still (λ j _. loop_word p (CpuRuns.after_keys (λ _. None) j p) w (loop j)) in
-    subst (λ (x : Pdp8e). IsInLoop p x.processor) (sym run) (loop k)
+    let run = run_alone stays (λ _. None) k m is still (λ j _. loop_word p (after j p) w (loops p j at)) in
+    subst (λ (x : Pdp8e). IsInLoop p x.processor) (sym run) (loops p k at)

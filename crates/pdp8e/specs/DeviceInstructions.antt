@@ -1,6 +1,6 @@
 -- The instructions of reader (601x), punch (602x), clock (613x) and line printer (666x), by their last octal digit (Small Computer
 -- Handbook). 6135 to 6137 are those of the PDP-8/A's clock, as in SIMH's PDP-8.
-use Rattle.std.specs.Prelude.{ℕ, ◌/◌, ◌%◌, Bool, true, false, ◌&&◌, ◌||◌, not, nat_eq, if◌then◌else◌, bit_or, Option, None, Some}
+use Rattle.std.specs.Prelude.{ℕ, ◌/◌, ◌%◌, Bool, true, false, ◌&&◌, ◌||◌, not, nat_eq, if◌then◌else◌, bit_or, Some}
 use Rattle.pdp8e.specs.Devices.{ReaderState, WriterState, ClockState, DevicesState}
 
 abbrev pub is_reader_word : ℕ → Bool

@@ -149,9 +149,13 @@ devices_ended d = record d {
 
 -- ## Time and requests
 
--- an instruction passes for the clock
+-- so many instructions pass for the clock
+abbrev pub instructions_after : DevicesState → ℕ → DevicesState
+instructions_after d count = record d { clock = record d.clock { time_left = time_after d.clock.time_left count } }
+
+-- one does
 abbrev pub devices_after : DevicesState → DevicesState
-devices_after d = record d { clock = record d.clock { time_left = time_after d.clock.time_left 1 } }
+devices_after d = instructions_after d 1
 
 -- a device requests an interrupt
 abbrev pub are_requesting : DevicesState → Bool

@@ -3,6 +3,7 @@ pub mod DeviceInstructions
 pub mod State
 pub mod Step
 pub mod Runs
+pub mod Lasting
 pub mod Asks
 pub mod Terminal
 pub mod TerminalSteps

@@ -1,6 +1,12 @@
 -- Runs of the whole 8/E. The printer ends its character before each step that finds it busy.
-use Rattle.std.specs.Prelude.{ℕ, zero, suc, if◌then◌else◌, Option, Some, None}
+use Rattle.std.specs.Prelude.{◌≡◌, ℕ, zero, suc, ◌<◌, ◌≤◌, if◌then◌else◌, Option, Some, None}
 use Rattle.cpu8.specs.declared.outcomes.Stepped.{Stepped}
+use Rattle.cpu8.specs.declared.outcomes.Stepped.TheVariants.{Ran}
+use Rattle.cpu8e.specs.Runs as CpuRuns
+use Rattle.cpu8e.specs.Unasked as Cpu
+use Rattle.rk8e.specs.Time.{disk_after}
+use Rattle.cpu8e.specs.State.{State8e}
+use Rattle.pdp8e.specs.Devices.{instructions_after}
 use Rattle.pdp8e.specs.State.{Pdp8e, key_struck, printer_done}
 use Rattle.pdp8e.specs.Step.{step}
 
@@ -20,3 +26,24 @@ with_key None m = m
 unfoldable pub after_keys : (ℕ → Option ℕ) → ℕ → Pdp8e → Pdp8e
 after_keys keys zero m = m
 after_keys keys (suc k) m = (printing_step (with_key (keys k) (after_keys keys k m))).0
+
+-- the machine after so many steps without a key
+abbrev pub after : ℕ → Pdp8e → Pdp8e
+after k m = after_keys (λ _. None) k m
+
+-- ## Steps in which nothing ends on disk and devices
+
+-- the machine with another processor, when so many instructions have passed for what is under way
+abbrev pub after_time : ℕ → Pdp8e → State8e → Pdp8e
+after_time count m processor = record {
+  processor = processor;
+  disk = disk_after m.disk count;
+  devices = instructions_after m.devices count;
+}
+
+-- In so many steps that are quickly made the program asks for no key. They are instructions of the processor alone, which pass for what is
+-- under way, and end nothing.
+pub record AreUnasked (m : Pdp8e) (count : ℕ) : Type 0 where
+  pub processor : Cpu.AreUnasked m.processor count
+  pub passes : (k : ℕ) → k ≤ count → after k m ≡ after_time k m (CpuRuns.after k m.processor)
+  pub answers : (k : ℕ) → k < count → (printing_step (after k m)).1 ≡ Ran None

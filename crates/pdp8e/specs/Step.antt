@@ -11,7 +11,7 @@ use Rattle.rk8e.specs.declared.moves.Moved.{Moved}
 use Rattle.cpu8e.specs.State.{with_core, grants_interrupt, device_answered}
 use Rattle.cpu8e.specs.Step.{next_word, after_interrupt}
 use Rattle.cpu8e.specs.Step as Cpu
-use Rattle.pdp8e.specs.Devices.{DevicesState, devices_ended, devices_after, devices_cleared}
+use Rattle.pdp8e.specs.Devices.{devices_ended, devices_after, devices_cleared}
 use Rattle.pdp8e.specs.DeviceInstructions.{is_device_word, devices_row, devices_ac, devices_skip}
 use Rattle.pdp8e.specs.State.{Pdp8e, machine_of, with_processor}
 

@@ -1,8 +1,9 @@
 //! The devices beside console and disk: a PC8-E reader and punch of paper tape, an LE8 line printer and a DK8-EA clock.
 
-ghost use Rattle.std.specs.Prelude.{◌≡◌};
+ghost use Rattle.std.specs.Prelude.{◌≡◌, ℕ, ◌≤◌, Some};
 ghost use Rattle.pdp8e.specs.Devices as spec;
-ghost use Rattle.pdp8e.specs.Devices.{new_devices, with_tape, with_paper, with_clock, devices_cleared, devices_started, devices_ended, devices_after};
+ghost use Rattle.pdp8e.specs.Devices.{new_devices, with_tape, with_paper, with_clock, devices_cleared, devices_started, devices_ended, instructions_after};
+ghost use Rattle.pdp8e.specs.Lasting.{DevicesLast};
 
 use std::marker::Model;
 
@@ -111,11 +112,26 @@ impl Devices {
         self.clock.end();
     }
 
-    /// An instruction passes for the clock.
-    pub(crate) fn pass(&mut self)
-        ensures { self.new ≡ devices_after self.old }
+    /// So many instructions pass for the clock.
+    pub(crate) fn pass(&mut self, count: u64)
+        ensures { self.new ≡ instructions_after self.old count }
     {
-        self.clock.pass();
+        self.clock.pass(count);
+    }
+
+    /// A number of instructions in which the clock doesn't tick and nothing else ends, if there is such a number: the clock's time left, or
+    /// `most`.
+    pub(crate) fn time_left(&self, most: u64) -> Option<u64>
+        ensures range { (count : ℕ) → result ≡ Some count → count ≤ most }
+        ensures lasts { (count : ℕ) → result ≡ Some count → DevicesLast self.now count }
+    {
+        if self.reader.is_asked || self.punch.writing.is_some() || self.printer.writing.is_some() {
+            return None;
+        }
+        match self.clock.time_left {
+            Some(time) => Some(time.min(most)),
+            None => Some(most),
+        }
     }
 
     /// Whether a device requests an interrupt.

@@ -19,6 +19,7 @@ use std::marker::Model;
 use word12::{Cell, Word};
 
 mod instructions;
+mod runs;
 
 /// A PDP-8/E with 0o100000 words of core, a console, an RK8-E disk control with four drives, a PC8-E reader and punch, an LE8 line printer
 /// and a DK8-EA clock (Small Computer Handbook).

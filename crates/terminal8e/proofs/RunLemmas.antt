@@ -1,11 +1,11 @@
 -- A run, as far as it has come.
-use Rattle.std.proofs.Common.{◌≡◌, ℕ, ◌+◌, ◌<◌, ◌≤◌, Bool, true, false, true≢false, if◌then◌else◌, List, [], ◌++◌, Option, Some, None, Result, Ok, Err, append-nil, append_assoc, unwrap_or, refl, ap, sym, subst, ◌∙◌, arith, below_more}
+use Rattle.std.proofs.Common.{◌≡◌, ℕ, zero, suc, ◌+◌, ◌<◌, ◌≤◌, Bool, true, false, true≢false, ◌&&◌, if◌then◌else◌, List, [], ◌++◌, Option, Some, None, Result, Ok, Err, append-nil, append_assoc, unwrap_or, refl, ap, sym, subst, ◌∙◌, arith, below_more}
 use Rattle.cpu8.specs.Go.{character_of}
 use Rattle.cpu8.specs.Laws.{runs_on}
 use Rattle.cpu8.specs.declared.outcomes.Stepped.{Stepped}
 use Rattle.cpu8.specs.declared.outcomes.Stepped.TheVariants.{Stopped, Interrupted, Ran, Halted, Unassigned}
 use Rattle.terminal8.specs.Keys.{Keyboard, fresh}
-use Rattle.terminal8.specs.Terminal.{visible_characters, has_halted, stop_of}
+use Rattle.terminal8.specs.Terminal.{visible_characters, has_halted, is_none_left, stop_of}
 use Rattle.terminal8.specs.Run.{MayFollow}
 use Rattle.terminal8.specs.Papers.{Passes, Holds}
 use Rattle.terminal8.specs.RunSteps.{Misses}
@@ -21,7 +21,7 @@ use Rattle.terminal8.proofs.LookLemmas.{finds-none}
 use Rattle.terminal8.proofs.RunLemmas.{IsTaken, halt-keys, limit-keys, may-join, no-keys, none-empty, stop-keys, taken-more}
 use Rattle.terminal8.proofs.TerminalLemmas.{shown-more}
 use Rattle.terminal8e.specs.Acts.{Acts}
-use Rattle.terminal8e.specs.AnyTerminal.{Terminal, new_terminal, after_step, next, later, last_did, characters_of, starves, GoesOn, Ends}
+use Rattle.terminal8e.specs.AnyTerminal.{Terminal, new_terminal, after_look, after_step, next, later, last_did, characters_of, after, GoesUnasked, starves, GoesOn, Ends}
 use Rattle.terminal8e.specs.AnyRun.{HasMadeSteps, IsRunOf, IsCut, Prints, WritesPrinted, RunsProgram}
 use Rattle.terminal8e.specs.AnySteps.{Attends, RunsInto}
 use Rattle.terminal8e.proofs.TerminalLemmas.{later-none, later-next, did-none, did-next, printed-none, printed-next}
@@ -179,6 +179,93 @@ running-next {S} acts form input old s s' new k k' a a' over over' since since' 
   taken = taken-next acts form input k k' a a' over over' s s' since since' r r' r'' i.looks false i.taken at;
   prints = step-prints acts input old s s' k k' a a' over over' since since' r' r'' w w' w'' w''' p p' p'' i.looks steps false did i.is_at i.prints at none did_is some;
 }
+
+-- ## Steps between two looks
+
+waits-not : (asks waits : Bool) → asks ≡ false → (asks && waits) ≡ false
+waits-not true waits h = absurd (true≢false h)
+waits-not false waits h = refl
+
+and-false : (a b : Bool) → b ≡ false → (a && b) ≡ false
+and-false true b h = h
+and-false false b h = refl
+
+-- after a step in which the program asks for no key and that prints nothing
+unasked-at : {S : Type 0} (acts : Acts S) (old s : S) (looks : List (Option ℕ)) (over : Bool) (steps since : ℕ) → IsAt acts old looks over steps s since
+    → RunsOn acts old looks over steps → acts.asks_for_key since s ≡ false → IsAt acts old looks over (steps + 1) (acts.printing_step s).0 (since + 1)
+unasked-at {S} acts old s looks over steps since i runs asks = record {
+  at = λ more may.
+      later-next acts steps (new_terminal old (looks ++ more))
+      ∙ ap (λ t. next acts t) (i.at more may)
+      ∙ ap (λ (b : Bool). let x : Terminal S = if b then after_look acts s more else record { machine = s; looks = more; since = since } in
+      let y : Terminal S = record x { machine = (acts.printing_step x.machine).0; since = x.since + 1 } in y) asks;
+  goes_on = λ more may. below_more _ _ (i.goes_on more may) (record {
+    runs = runs more may;
+    fed = ap (λ t. starves acts t) (i.at more may)
+        ∙ and-false (is_none_left more) _ (waits-not (acts.asks_for_key since s) (acts.waits_for_key s) asks);
+  });
+}
+
+unasked-did : {S : Type 0} (acts : Acts S) (old s : S) (looks : List (Option ℕ)) (over : Bool) (steps since : ℕ) → IsAt acts old looks over steps s since
+    → acts.asks_for_key since s ≡ false → (more : List (Option ℕ)) → MayFollow over more
+    → (after_step acts (later acts steps (new_terminal old (looks ++ more)))).1 ≡ (acts.printing_step s).1
+unasked-did {S} acts old s looks over steps since i asks more may =
+    ap (λ t. (after_step acts t).1) (i.at more may)
+    ∙ ap (λ (b : Bool). let x : Terminal S = if b then after_look acts s more else record { machine = s; looks = more; since = since } in (acts.printing_step x.machine).1) asks
+
+unasked-prints : {S : Type 0} (acts : Acts S) (old s : S) (looks : List (Option ℕ)) (over : Bool) (steps since : ℕ) (w w' : Option (List ℕ)) (p : List ℕ)
+    → IsAt acts old looks over steps s since → acts.asks_for_key since s ≡ false → (acts.printing_step s).1 ≡ Ran None
+    → Prints acts old looks over w w' p steps → Prints acts old looks over w w' p (steps + 1)
+unasked-prints {S} acts old s looks over steps since w w' p i asks ran prints more may =
+    let t = new_terminal old (looks ++ more) in
+    subst (λ cs. Passes w w' [] p (visible_characters cs))
+    (sym (append-nil (characters_of acts steps t))
+    ∙ ap (λ d. characters_of acts steps t ++ character_of d) (sym (unasked-did acts old s looks over steps since i asks more may ∙ ran))
+    ∙ sym (printed-next acts steps t))
+    (prints more may)
+
+unasked-next : {S : Type 0} (acts : Acts S) (form : Form) (input : Input) (old s : S) (k : Keyboard) (a : List ℕ) (over : Bool) (since : ℕ)
+    (r r' w w' : Option (List ℕ)) (p : List ℕ) (steps : ℕ)
+    → IsRunning acts form input old s k a over since r r' w w' p steps → acts.asks_for_key since s ≡ false → (acts.printing_step s).1 ≡ Ran None
+    → IsRunning acts form input old (acts.printing_step s).0 k a over (since + 1) r r' w w' p (steps + 1)
+unasked-next {S} acts form input old s k a over since r r' w w' p steps i asks ran = record {
+  looks = i.looks;
+  is_at = unasked-at acts old s i.looks over steps since i.is_at i.runs asks;
+  runs = λ more may.
+      ap (λ d. runs_on d) (did-next acts steps (new_terminal old (i.looks ++ more))
+      ∙ unasked-did acts old s i.looks over steps since i.is_at asks more may ∙ ran);
+  taken = i.taken;
+  prints = unasked-prints acts old s i.looks over steps since w w' p i.is_at asks ran i.prints;
+}
+
+-- after so many such steps
+unasked-more : {S : Type 0} (acts : Acts S) (form : Form) (input : Input) (old s : S) (k : Keyboard) (a : List ℕ) (over : Bool) (since : ℕ)
+    (r r' w w' : Option (List ℕ)) (p : List ℕ) (steps count : ℕ) → IsRunning acts form input old s k a over since r r' w w' p steps
+    → ((m : ℕ) → m < count → (acts.printing_step (after acts m s)).1 ≡ Ran None)
+    → ((m : ℕ) → m < count → acts.asks_for_key (since + m) (after acts m s) ≡ false)
+    → IsRunning acts form input old (after acts count s) k a over (since + count) r r' w w' p (steps + count)
+unfolding after
+unasked-more {S} acts form input old s k a over since r r' w w' p steps zero i answers asks =
+    let e : steps ≡ steps + 0 = omega arith in
+    let f : since ≡ since + 0 = omega arith in
+    subst (λ (m : ℕ). IsRunning acts form input old s k a over m r r' w w' p (steps + 0)) f
+    (subst (λ (m : ℕ). IsRunning acts form input old s k a over since r r' w w' p m) e i)
+unasked-more {S} acts form input old s k a over since r r' w w' p steps (suc count) i answers asks =
+    let e : steps + count + 1 ≡ steps + suc count = omega arith in
+    let f : since + count + 1 ≡ since + suc count = omega arith in
+    let t = after acts count s in
+    let before = unasked-more acts form input old s k a over since r r' w w' p steps count i
+    (λ m below. answers m (omega (arith, below))) (λ m below. asks m (omega (arith, below))) in
+    let last = unasked-next acts form input old t k a over (since + count) r r' w w' p (steps + count) before (asks count (omega arith)) (answers count (omega arith)) in
+    subst (λ (m : ℕ). IsRunning acts form input old (acts.printing_step t).0 k a over m r r' w w' p (steps + suc count)) f
+    (subst (λ (m : ℕ). IsRunning acts form input old (acts.printing_step t).0 k a over (since + count + 1) r r' w w' p m) e last)
+
+pub running-more : {S : Type 0} (acts : Acts S) (form : Form) (input : Input) (old s new : S) (k : Keyboard) (a : List ℕ) (over : Bool) (since : ℕ)
+    (r r' w w' : Option (List ℕ)) (p : List ℕ) (steps count : ℕ) → IsRunning acts form input old s k a over since r r' w w' p steps
+    → GoesUnasked acts since count s new → IsRunning acts form input old new k a over (since + count) r r' w w' p (steps + count)
+running-more {S} acts form input old s new k a over since r r' w w' p steps count i goes =
+    subst (λ x. IsRunning acts form input old x k a over (since + count) r r' w w' p (steps + count)) (sym goes.state)
+    (unasked-more acts form input old s k a over since r r' w w' p steps count i goes.answers goes.asks)
 
 -- ## The ends of a run
 

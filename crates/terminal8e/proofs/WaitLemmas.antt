@@ -7,11 +7,11 @@ use Rattle.cpu8.specs.Step as Step8i
 use Rattle.cpu8.specs.declared.outcomes.Stepped.{Stepped}
 use Rattle.cpu8.specs.declared.outcomes.Stepped.TheVariants.{Ran}
 use Rattle.cpu8e.specs.State.{State8e, with_base, printer_done, grants_interrupt}
-use Rattle.cpu8e.specs.Runs.{printing_step}
+use Rattle.cpu8e.specs.Runs.{printing_step, after_keys, after}
 use Rattle.cpu8e.specs.Step.{next_word, after_instruction, step}
 use Rattle.terminal8.specs.Asks.{jumps_back, is_direct_jmp, word_after}
 use Rattle.terminal8e.specs.Asks.{asks_for_key, waits_for_key, is_at_ksf, is_requested_without_key}
-use Rattle.terminal8e.specs.Laws.{IsInLoop, after}
+use Rattle.terminal8e.specs.Laws.{IsInLoop}
 
 not-true : (b : Bool) → not b ≡ true → b ≡ false
 not-true true h = absurd (true≢false (sym h))
@@ -140,6 +140,6 @@ loop-next s now w (inl is) = inr (ap (λ x. (printing_step x).0) is ∙ ap (λ r
 loop-next s now w (inr is) = inl (ap (λ x. (printing_step x).0) is ∙ ap (λ r. r.0) (printing-idle (gone-on s) w.idle ∙ jmp-step s w))
 
 pub in-loop : (s : State8e) → Waits s → (k : ℕ) → IsInLoop s (after k s)
-unfolding after
+unfolding after_keys
 in-loop s w zero = inl refl
 in-loop s w (suc k) = loop-next s (after k s) w (in-loop s w k)

@@ -54,6 +54,22 @@ unfoldable pub characters_of : {S : Type 0} → Acts S → ℕ → Terminal S �
 characters_of {S} acts zero t = []
 characters_of {S} acts (suc k) t = characters_of acts k t ++ character_of (after_step acts (later acts k t)).1
 
+-- ## Steps between two looks
+
+-- the machine after so many steps without a key
+unfoldable pub after : {S : Type 0} → Acts S → ℕ → S → S
+after {S} acts zero s = s
+after {S} acts (suc k) s = (acts.printing_step (after acts k s)).0
+
+-- A machine makes so many steps that print nothing and go on. In none of them its program asks for a key, so many steps after the last
+-- look.
+pub record GoesUnasked {S : Type 0} (acts : Acts S) (since count : ℕ) (old new : S) : Type 0 where
+  pub state : new ≡ after acts count old
+  pub answers : (m : ℕ) → m < count → (acts.printing_step (after acts m old)).1 ≡ Ran None
+  pub asks : (m : ℕ) → m < count → acts.asks_for_key (since + m) (after acts m old) ≡ false
+
+-- ## Ends
+
 -- the keys have ended, and the program asks for one and does nothing but wait for it
 abbrev pub starves : {S : Type 0} → Acts S → Terminal S → Bool
 starves {S} acts t = is_none_left t.looks && (acts.asks_for_key t.since t.machine && acts.waits_for_key t.machine)

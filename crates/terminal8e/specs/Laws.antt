@@ -1,8 +1,7 @@
 -- What the laws of an 8/E at a terminal say.
-use Rattle.std.specs.Prelude.{◌≡◌, ◌⊎◌, ℕ, zero, suc, List, Option}
+use Rattle.std.specs.Prelude.{◌≡◌, ◌⊎◌, ℕ, List, Option}
 use Rattle.cpu8.specs.Reference.{after_fetch}
 use Rattle.cpu8e.specs.State.{State8e, with_base}
-use Rattle.cpu8e.specs.Runs.{printing_step}
 use Rattle.terminal8.specs.declared.keyboards.Form.{Form}
 use Rattle.terminal8.specs.declared.outcomes.Ended.{Ended}
 use Rattle.terminal8e.specs.AnyLaws as any
@@ -11,11 +10,6 @@ use Rattle.terminal8e.specs.Terminal.{Terminal, terminal_acts}
 -- a machine is as before, or has gone on by one instruction that changed nothing but PC
 abbrev pub IsInLoop : State8e → State8e → Type 0
 IsInLoop s now = (now ≡ s) ⊎ (now ≡ with_base s (after_fetch s.base))
-
--- the machine after so many steps without a key
-unfoldable pub after : ℕ → State8e → State8e
-after zero s = s
-after (suc k) s = (printing_step (after k s)).0
 
 -- ## Whole runs
 

@@ -1,6 +1,6 @@
 //! When a program asks for a key, and when it does nothing but wait for one.
 
-ghost use Rattle.std.specs.Prelude.{◌≡◌, ◌<◌};
+ghost use Rattle.std.specs.Prelude.{◌≡◌, ℕ, ◌+◌, ◌<◌, ◌≤◌, ◌&&◌, nat_le, false};
 ghost use Rattle.cpu8e.specs.State.{is_requested_by_others};
 ghost use Rattle.cpu8e.specs.Step.{next_word};
 ghost use Rattle.terminal8.specs.Asks.{jumps_back};
@@ -17,6 +17,22 @@ pub fn asks_for_key(since: u64, machine: &Machine) -> bool
 {
     !machine.keyboard_flag()
         && (is_waiting(machine) || (since >= TENTH_OF_A_SECOND && may_see_key(machine)))
+}
+
+/// How many steps, at most n, a program may make before it looks for a key by the console's interrupts alone. So many steps were made
+/// since the last look, and these interrupts stay as they are.
+#[inline(always)]
+pub fn steps_before_look(since: u64, machine: &Machine, n: u64) -> usize
+    ensures within { result ≤ n }
+    ensures sooner { (m : ℕ) → m < result
+        → (nat_le 30000 (since + m) && (machine.now.base.interrupts_on && machine.now.console_enabled)) ≡ false }
+{
+    let most = if machine.interrupts_on() && machine.console_enabled() {
+        TENTH_OF_A_SECOND.saturating_sub(since)
+    } else {
+        TENTH_OF_A_SECOND
+    };
+    n.min(most) as usize
 }
 
 /// Whether the machine waits for a key in `KSF; JMP .-1`, and would do so for ever if none came.

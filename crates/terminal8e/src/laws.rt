@@ -2,12 +2,13 @@
 
 ghost use Rattle.std.specs.Prelude.{◌≡◌, ℕ, ◌+◌, true, List, ◌++◌, Option, Some, Ok};
 ghost use Rattle.cpu8e.specs.State.{State8e};
+ghost use Rattle.cpu8e.specs.Runs.{after};
 ghost use Rattle.terminal8.specs.declared.inputs.Input.TheVariants.{Ending};
 ghost use Rattle.terminal8.specs.declared.keyboards.Form.{Form};
 ghost use Rattle.terminal8.specs.declared.outcomes.Ended.{Ended};
 ghost use Rattle.terminal8.specs.declared.outcomes.TerminalEnd.{TerminalEnd};
 ghost use Rattle.terminal8e.specs.Asks.{asks_for_key, waits_for_key};
-ghost use Rattle.terminal8e.specs.Laws.{IsInLoop, IsWholeRun, after, terminal_of};
+ghost use Rattle.terminal8e.specs.Laws.{IsInLoop, IsWholeRun, terminal_of};
 ghost use Rattle.terminal8e.specs.Run.{RunsProgram};
 ghost use Rattle.terminal8e.specs.Terminal as terminal;
 ghost use Rattle.terminal8e.specs.Terminal.{Terminal, IsRun, later};

@@ -1,7 +1,8 @@
 //! What a machine of any kind does at a terminal.
 
-ghost use Rattle.std.specs.Prelude.{◌≡◌};
+ghost use Rattle.std.specs.Prelude.{◌≡◌, ◌≤◌};
 ghost use Rattle.terminal8e.specs.Acts.{Acts};
+ghost use Rattle.terminal8e.specs.AnyTerminal.{GoesUnasked};
 
 use cpu8::Stepped;
 
@@ -30,4 +31,10 @@ pub trait TerminalMachine {
     fn make_step(&mut self) -> Stepped
         ensures state { self.new ≡ (acts.printing_step self.old).0 }
         ensures answer { result ≡ (acts.printing_step self.old).1 };
+
+    /// Makes at most n steps at once, as many as are quickly made, and answers how many. Each goes on and prints nothing, and in none the
+    /// program asks for a key. So many steps were made since the last look. Where it makes none, the caller takes `make_step`.
+    fn make_quick_steps(&mut self, since: u64, n: u64) -> u64
+        ensures within { result ≤ n }
+        ensures steps { GoesUnasked acts since result self.old self.new };
 }

@@ -4,7 +4,7 @@ ghost use Rattle.std.specs.Prelude.{◌≡◌, IfErr};
 ghost use Rattle.terminal8.specs.declared.outcomes.TerminalFault.TheVariants as fault;
 ghost use Rattle.terminal8e.specs.Run.{RunsProgram};
 
-use crate::asking::{asks_for_key, waits_for_key};
+use crate::asking::{asks_for_key, steps_before_look, waits_for_key};
 use crate::machines::TerminalMachine;
 use crate::runs::run_machine;
 use byte_reader::ByteReader;
@@ -40,6 +40,12 @@ impl TerminalMachine for Machine {
             self.end_character();
         }
         self.step()
+    }
+
+    #[inline]
+    fn make_quick_steps(&mut self, since: u64, n: u64) -> u64 {
+        let most = steps_before_look(since, self, n);
+        self.run_unasked(most) as u64
     }
 }
 

@@ -87,12 +87,12 @@ impl Clock {
         }
     }
 
-    /// An instruction passes.
-    pub(super) fn pass(&mut self)
-        ensures { self.new ≡ record self.old { time_left = time_after self.old.time_left 1 } }
+    /// So many instructions pass.
+    pub(super) fn pass(&mut self, count: u64)
+        ensures { self.new ≡ record self.old { time_left = time_after self.old.time_left count } }
     {
         if let Some(time) = self.time_left {
-            self.time_left = Some(time.saturating_sub(1));
+            self.time_left = Some(time.saturating_sub(count));
         }
     }
 

@@ -56,7 +56,7 @@ impl Machine {
         ensures { self.new ≡ device_row (passing self.old) word }
     {
         self.disk.pass(1);
-        self.devices.pass();
+        self.devices.pass(1);
         let given = self.devices.do_instruction(word, self.processor.ac());
         self.processor.answer_device(given.ac, given.skips);
         self.is_quiet = join(&mut self.processor, &self.disk, &self.devices);
@@ -67,7 +67,7 @@ impl Machine {
         ensures { self.new ≡ disk_row (passing self.old) word }
     {
         self.disk.pass(1);
-        self.devices.pass();
+        self.devices.pass(1);
         let pulses = (word.get() % 8) as u8;
         let answer = self.disk.do_instruction(pulses, self.processor.ac());
         self.processor.answer_device(answer.ac, answer.skips);
@@ -84,7 +84,7 @@ impl Machine {
         ensures answer { result ≡ (processor_row (passing self.old) word).1 }
     {
         self.disk.pass(1);
-        self.devices.pass();
+        self.devices.pass(1);
         let clears = word.get() == CAF && !self.processor.user_flag();
         let did = self.processor.step();
         if clears {

@@ -1,9 +1,9 @@
-use Rattle.std.proofs.Common.{Bool, true, false, arith, refl, sym, subst, ◌∙◌}
+use Rattle.std.proofs.Common.{◌+◌, Bool, true, false, arith, refl, sym, subst, ◌∙◌}
 use Rattle.std.proofs.lemmas.Result.{err_from_is_err_and}
 use Rattle.terminal8.specs.declared.inputs.Input.{Input}
 use Rattle.terminal8e.specs.AnySteps.{Attends}
 use Rattle.terminal8e.proofs.PartLemmas.{running-of}
-use Rattle.terminal8e.proofs.RunLemmas.{running-next, limit-run, starved-run, ended-run, unwritten-run, missed-run}
+use Rattle.terminal8e.proofs.RunLemmas.{running-next, running-more, limit-run, starved-run, ended-run, unwritten-run, missed-run}
 use Rattle.terminal8e.proofs.sittings.Sitting.make_steps.Goals as goal
 
 pub loop-self-init : goal.loop-self-init
@@ -75,12 +75,15 @@ loop-self-preserved g c =
     (g.R.ByteReader.remaining c.loop-self.reader) (g.R.ByteReader.remaining c.attend.new.reader) false) i.input attends in
     let did = c.in_ok-did.ensures.ok in
     record {
-      running = λ first form before written come. running-next g.M.TerminalMachine.acts form c.args.self.now.operator.input first c.loop-self.machine c.attend.new.machine c.step.new.machine _ _ _ _ _ _
+      running = λ first form before written come. running-more g.M.TerminalMachine.acts form c.args.self.now.operator.input first c.step.new.machine c.make_quick_steps-more.new.self _ _ _ (c.attend.new.self.since + 1)
+          _ _ _ _ c.step.new.paper (c.loop-self.self.steps + 1) c.make_quick_steps-more.result
+          (running-next g.M.TerminalMachine.acts form c.args.self.now.operator.input first c.loop-self.machine c.attend.new.machine c.step.new.machine _ _ _ _ _ _
           c.loop-self.self.operator.since c.attend.new.self.since _ _ _ _ _ _ _ c.loop-self.paper c.attend.new.paper c.step.new.paper c.loop-self.self.steps
-          c.in_ok-did.did (i.running first form before written come) at c.in_ok-attend.ensures.paper c.step.ensures.state did.0 did.1 (sym c.stop_of.ensures ∙ c.in_default.is);
+          c.in_ok-did.did (i.running first form before written come) at c.in_ok-attend.ensures.paper c.step.ensures.state did.0 did.1 (sym c.stop_of.ensures ∙ c.in_default.is))
+          c.make_quick_steps-more.ensures.steps;
       input = c.in_ok-attend.ensures.input ∙ i.input;
       sooner = omega (arith, at.sooner, i.sooner);
-      within = omega (arith, c.loop-self-test.true);
+      within = omega (arith, c.loop-self-test.true, c.make_quick_steps-more.ensures.within);
       begun = omega (arith, i.begun);
     }
 
