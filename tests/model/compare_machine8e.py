@@ -1,7 +1,8 @@
 #!/usr/bin/env python3
 """compare_machine8e.py [--program FILE] [--runs N] [--seed S]: makes N random programs of an 8/E with disks, a reader, a punch, a line printer and a
 clock, 300 where nothing is said. It traces each with the program and in the plain model. The lines of their steps must be the same but for the spelled
-instructions, and so must be what punch, line printer and disks have at the end. The same number is the same programs each time. The last line is
+instructions, and so must be what punch, line printer and disks have at the end. A third of them it also runs at the Teletype, where steps are made several
+at once: what they print, their last line and their disks must be the model's. The same number is the same programs each time. The last line is
 'N passed, M failed'.
 """
 import argparse
@@ -26,6 +27,8 @@ from tests.options import patience
 from tests.tally import Tally, fault_in
 
 START, STEPS, KSF = 0o200, 300, 0o6031
+# The most steps of a run at the Teletype.
+LIMIT = 10_000
 DEVICES = [0o6010, 0o6020, 0o6130, 0o6660]
 
 
@@ -59,17 +62,29 @@ class Case:
         disks = {f"D{number}": file_of(it) for number, it in enumerate(self.images) if it is not None}
         return {"TAPE": bytes(tape_of(list(self.words.items()))), "READER": bytes(self.frames), **disks}
 
+    def disks(self) -> list[str]:
+        """The options of the disks."""
+        return [word for number, it in enumerate(self.images) if it is not None for word in (f"--rk{number}", f"D{number}")]
+
+    def without_devices(self) -> "Case":
+        """The same at the Teletype, where there is no paper tape, line printer and clock."""
+        self.frames, self.period, self.has_paper = [], None, False
+        return self
+
     def options(self) -> list[str]:
-        disks = [word for number, it in enumerate(self.images) if it is not None for word in (f"--rk{number}", f"D{number}")]
+        disks = self.disks()
         paper = ["--printer", "PRINTER"] if self.has_paper else []
         clock = ["--clock", str(self.period)] if self.period else []
         times = ["--disk-time", str(self.times[0]), "--seek-time", str(self.times[1])]
         return ["--cpu", "8e", "--start", "200", "--steps", str(STEPS), "--reader", "READER", "--punch", "PUNCH", *paper, *clock, *disks, *times]
 
+    def wanted_disks(self, machine: FullMachine8e) -> dict[str, bytes]:
+        """What the files of the disks hold after a run."""
+        return {f"D{number}": file_of(it.sectors) for number, it in enumerate(machine.drives) if it.sectors is not None}
+
     def wanted_files(self, machine: FullMachine8e) -> dict[str, bytes]:
         """What the files hold that a run may change."""
-        disks = {f"D{number}": file_of(it.sectors) for number, it in enumerate(machine.drives) if it.sectors is not None}
-        return {"PUNCH": bytes(machine.punched), **({"PRINTER": bytes(machine.lined)} if self.has_paper else {}), **disks}
+        return {"PUNCH": bytes(machine.punched), **({"PRINTER": bytes(machine.lined)} if self.has_paper else {}), **self.wanted_disks(machine)}
 
 
 def line_of(machine: FullMachine8e, cell: int, word: int, before: list[int]) -> str:
@@ -125,6 +140,42 @@ def compared(program: str, seed: int) -> str:
     return ""
 
 
+def ended(machine: FullMachine8e, why: str | None) -> str:
+    """The last line of a run at the Teletype that ends so."""
+    place = octal(machine.here, 5)
+    return f"HALT {place} AC {octal(machine.ac, 4)} L {machine.link} MQ {octal(machine.mq, 4)}" if why else f"LIMIT {place}"
+
+
+def compared_at_teletype(program: str, seed: int) -> str:
+    """What is wrong with the run of a random program at the Teletype, at which no key is struck."""
+    case = Case(Random(seed)).without_devices()
+    machine, why = case.machine(), None
+    for _ in range(LIMIT):
+        machine.begin()
+        why = machine.step()
+        if why:
+            break
+    printed = bytes(it & 0o177 for it in machine.printed if it & 0o177)
+    with tempfile.TemporaryDirectory(prefix="pdp8-machine8e-") as folder:
+        for name, data in case.files().items():
+            with open(f"{folder}/{name}", "wb") as file:
+                file.write(data)
+        times = ["--disk-time", str(case.times[0]), "--seek-time", str(case.times[1])] if case.disks() else []
+        words = [program, "teletype", "TAPE", "--cpu", "8e", "--start", "200", "--steps", str(LIMIT), *case.disks(), *times]
+        done = subprocess.run(words, cwd=folder, stdin=subprocess.DEVNULL, capture_output=True, timeout=patience(120))
+        got = (done.stderr.decode("latin1").splitlines() or [""])[-1]
+        waits = got.startswith("KEYS END ") and machine.here - int(got.split()[-1], 8) in (0, 1)
+        if done.returncode != got.startswith("LIMIT") or not (waits or got == ended(machine, why)):
+            return f"seed {seed}: at the Teletype the status is {done.returncode}, and it ends with {got}, not {ended(machine, why)}"
+        if done.stdout != printed:
+            return f"seed {seed}: at the Teletype it prints {done.stdout!r}, not {printed!r}"
+        for name, data in case.wanted_disks(machine).items():
+            with open(f"{folder}/{name}", "rb") as file:
+                if file.read() != data:
+                    return f"seed {seed}: at the Teletype {name} has other bytes"
+    return ""
+
+
 def main() -> int:
     parser = argparse.ArgumentParser()
     parser.add_argument("--program", default=f"{TOP}/target/unproved/pdp8/pdp8")
@@ -134,6 +185,8 @@ def main() -> int:
     tally = Tally()
     for seed in range(options.seed, options.seed + options.runs):
         tally.add("traces", fault_in(functools.partial(compared, os.path.abspath(options.program), seed)))
+    for seed in range(options.seed, options.seed + (options.runs + 2) // 3):
+        tally.add("runs at the Teletype", fault_in(functools.partial(compared_at_teletype, os.path.abspath(options.program), seed)))
     return tally.end()
 
 
