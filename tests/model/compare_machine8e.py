@@ -66,10 +66,9 @@ class Case:
         """The options of the disks."""
         return [word for number, it in enumerate(self.images) if it is not None for word in (f"--rk{number}", f"D{number}")]
 
-    def without_devices(self) -> "Case":
-        """The same at the Teletype, where there is no paper tape, line printer and clock."""
+    def remove_devices(self) -> None:
+        """Leaves what a machine has at the Teletype, which is no paper tape, no line printer and no clock."""
         self.frames, self.period, self.has_paper = [], None, False
-        return self
 
     def options(self) -> list[str]:
         disks = self.disks()
@@ -85,6 +84,22 @@ class Case:
     def wanted_files(self, machine: FullMachine8e) -> dict[str, bytes]:
         """What the files hold that a run may change."""
         return {"PUNCH": bytes(machine.punched), **({"PRINTER": bytes(machine.lined)} if self.has_paper else {}), **self.wanted_disks(machine)}
+
+
+def lay(folder: str, files: dict[str, bytes]) -> None:
+    """Writes files into a folder."""
+    for name, data in files.items():
+        with open(f"{folder}/{name}", "wb") as file:
+            file.write(data)
+
+
+def other_file(folder: str, wanted: dict[str, bytes]) -> str:
+    """The first of these files that holds other bytes, if one does."""
+    for name, data in wanted.items():
+        with open(f"{folder}/{name}", "rb") as file:
+            if file.read() != data:
+                return name
+    return ""
 
 
 def line_of(machine: FullMachine8e, cell: int, word: int, before: list[int]) -> str:
@@ -121,9 +136,7 @@ def compared(program: str, seed: int) -> str:
     """What is wrong with the trace of a random program."""
     case = Case(Random(seed))
     with tempfile.TemporaryDirectory(prefix="pdp8-machine8e-") as folder:
-        for name, data in case.files().items():
-            with open(f"{folder}/{name}", "wb") as file:
-                file.write(data)
+        lay(folder, case.files())
         done = subprocess.run([program, "trace", "TAPE", *case.options()], cwd=folder, stdin=subprocess.DEVNULL, capture_output=True, timeout=patience(120))
         got = [plain(it) for it in done.stdout.decode("latin1").splitlines()]
         if done.returncode or done.stderr or not got or not got[-1].startswith("STEPS "):
@@ -133,14 +146,11 @@ def compared(program: str, seed: int) -> str:
         if got != wanted:
             at = next((it for it, pair in enumerate(zip(got, wanted)) if pair[0] != pair[1]), min(len(got), len(wanted)))
             return f"seed {seed}, line {at + 1}: {got[at : at + 1]}, not {wanted[at : at + 1]}"
-        for name, data in case.wanted_files(machine).items():
-            with open(f"{folder}/{name}", "rb") as file:
-                if file.read() != data:
-                    return f"seed {seed}: {name} has other bytes"
-    return ""
+        other = other_file(folder, case.wanted_files(machine))
+    return f"seed {seed}: {other} has other bytes" if other else ""
 
 
-def ended(machine: FullMachine8e, why: str | None) -> str:
+def last_line(machine: FullMachine8e, why: str | None) -> str:
     """The last line of a run at the Teletype that ends so."""
     place = octal(machine.here, 5)
     return f"HALT {place} AC {octal(machine.ac, 4)} L {machine.link} MQ {octal(machine.mq, 4)}" if why else f"LIMIT {place}"
@@ -148,7 +158,8 @@ def ended(machine: FullMachine8e, why: str | None) -> str:
 
 def compared_at_teletype(program: str, seed: int) -> str:
     """What is wrong with the run of a random program at the Teletype, at which no key is struck."""
-    case = Case(Random(seed)).without_devices()
+    case = Case(Random(seed))
+    case.remove_devices()
     machine, why = case.machine(), None
     for _ in range(LIMIT):
         machine.begin()
@@ -157,23 +168,18 @@ def compared_at_teletype(program: str, seed: int) -> str:
             break
     printed = bytes(it & 0o177 for it in machine.printed if it & 0o177)
     with tempfile.TemporaryDirectory(prefix="pdp8-machine8e-") as folder:
-        for name, data in case.files().items():
-            with open(f"{folder}/{name}", "wb") as file:
-                file.write(data)
+        lay(folder, case.files())
         times = ["--disk-time", str(case.times[0]), "--seek-time", str(case.times[1])] if case.disks() else []
         words = [program, "teletype", "TAPE", "--cpu", "8e", "--start", "200", "--steps", str(LIMIT), *case.disks(), *times]
         done = subprocess.run(words, cwd=folder, stdin=subprocess.DEVNULL, capture_output=True, timeout=patience(120))
         got = (done.stderr.decode("latin1").splitlines() or [""])[-1]
         waits = got.startswith("KEYS END ") and machine.here - int(got.split()[-1], 8) in (0, 1)
-        if done.returncode != got.startswith("LIMIT") or not (waits or got == ended(machine, why)):
-            return f"seed {seed}: at the Teletype the status is {done.returncode}, and it ends with {got}, not {ended(machine, why)}"
+        if done.returncode != got.startswith("LIMIT") or not (waits or got == last_line(machine, why)):
+            return f"seed {seed}: at the Teletype the status is {done.returncode}, and it ends with {got}, not {last_line(machine, why)}"
         if done.stdout != printed:
             return f"seed {seed}: at the Teletype it prints {done.stdout!r}, not {printed!r}"
-        for name, data in case.wanted_disks(machine).items():
-            with open(f"{folder}/{name}", "rb") as file:
-                if file.read() != data:
-                    return f"seed {seed}: at the Teletype {name} has other bytes"
-    return ""
+        other = other_file(folder, case.wanted_disks(machine))
+    return f"seed {seed}: at the Teletype {other} has other bytes" if other else ""
 
 
 def main() -> int:
