@@ -1,0 +1,14 @@
+pub mod EntryLemmas
+pub mod StateLemmas
+pub mod PlaceLemmas
+pub mod KeptLemmas
+pub mod ListLemmas
+pub mod CheckpointLemmas
+pub mod ReplayLemmas
+pub mod HaltLemmas
+pub mod SearchLemmas
+pub mod RunLemmas
+pub mod HistoryLemmas
+pub mod CopyLemmas
+pub mod StoreLemmas
+pub mod BackLemmas

@@ -1,0 +1,9 @@
+pub mod Changes
+pub mod History
+pub mod Stops
+pub mod Entries
+pub mod EntrySteps
+pub mod Checkpoints
+pub mod CheckpointSteps
+pub mod Steps
+pub mod Keeping
