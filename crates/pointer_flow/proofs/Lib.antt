@@ -1,0 +1,15 @@
+pub mod CountLemmas
+pub mod BitLemmas
+pub mod StateLemmas
+pub mod FactLemmas
+pub mod HandlerLemmas
+pub mod GrowLemmas
+pub mod MarkLemmas
+pub mod WalkLemmas
+pub mod WriteLemmas
+pub mod FlowLemmas
+pub mod SettledLemmas
+pub mod QuestionLemmas
+pub mod NextLemmas
+pub mod LawLemmas
+pub mod ReturnLemmas

@@ -1,0 +1,7 @@
+use Rattle.pointer_flow.specs.States.{jump_field}
+use Rattle.pointer_flow.specs.Settled.{IsSettled}
+use Rattle.pointer_flow.proofs.SettledLemmas.{IsMarkedBelow}
+use Rattle.pointer_flow.proofs.cell_states.settled_jump.Given as goal
+
+abbrev pub invariant-loop-number : goal.invariant-loop-number
+invariant-loop-number l = IsSettled (IsMarkedBelow l.states.bits.items l.cell l.number) (λ s. jump_field s.cell s.buffer) l.settled

@@ -1,0 +1,12 @@
+use Rattle.std.proofs.Common.{◌≡◌, ℕ, ◌<◌, false, length, slice_index_or}
+use Rattle.word12.specs.declared.sizes.TheConstants.{CORE}
+use Rattle.flow8.specs.Flow.{word_in}
+use Rattle.pointer_flow.specs.Calls.{fetches_into}
+use Rattle.pointer_flow.specs.Programs.{is_some_below}
+use Rattle.pointer_flow.proofs.handler_cells.entry_flags.Given as goal
+
+abbrev pub invariant-loop-number : goal.invariant-loop-number
+invariant-loop-number l = record {
+  size : length l.flags.items ≡ CORE;
+  set : (cell : ℕ) → cell < CORE → slice_index_or l.flags.items cell false ≡ is_some_below (fetches_into (word_in l.words) cell) l.number;
+}

@@ -1,0 +1,13 @@
+pub mod States
+pub mod Programs
+pub mod Calls
+pub mod Returns
+pub mod Next
+pub mod Writes
+pub mod Flow
+pub mod Questions
+pub mod Laws
+pub mod Tables
+pub mod Steps
+pub mod Settled
+pub mod Levels
