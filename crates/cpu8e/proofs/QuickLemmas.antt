@@ -1,5 +1,5 @@
 -- Quick steps of a run.
-use Rattle.std.proofs.Common.{◌≡◌, ℕ, zero, suc, ◌+◌, ◌-◌, ◌/◌, ◌%◌, ◌<◌, ◌≤◌, Bool, true, false, true≢false, ◌&&◌, ◌||◌, not, nat_eq, nat_le, if◌then◌else◌, None, add-one, refl, ap, sym, subst, ◌∙◌, arith, below_more}
+use Rattle.std.proofs.Common.{◌≡◌, ℕ, zero, suc, ◌+◌, ◌-◌, ◌/◌, ◌%◌, ◌<◌, ◌≤◌, Bool, true, false, true≢false, ◌&&◌, ◌||◌, not, nat_eq, nat_le, nat_lt, if◌then◌else◌, None, add-one, refl, ap, sym, subst, ◌∙◌, arith, below_more}
 use Rattle.std.proofs.lemmas.Bool.{and_parts, eqb-true}
 use Rattle.std.proofs.lemmas.Bool.Decides.{nat_tests}
 use Rattle.cpu8.specs.State.{State}
@@ -14,7 +14,7 @@ use Rattle.cpu8e.specs.Console.{nothing_row}
 use Rattle.cpu8e.specs.Operate.{is_privileged, bsw_result, group1_row, refusal_of, group2_row, group3_done, operate_row}
 use Rattle.cpu8e.specs.Step.{is_reference, is_jump, is_transfer, jump_row, device_row, transfer_row, after_instruction, next_word, step}
 use Rattle.cpu8e.specs.Runs.{printing_step, after_keys, after}
-use Rattle.cpu8e.specs.Unasked.{is_cdf, is_quick_transfer, is_quick_operate, is_quick, finds_no_key, AreUnasked}
+use Rattle.cpu8e.specs.Unasked.{changes_fields, is_quick_transfer, is_quick_operate, is_quick, may_ask, IsUnasked, AreUnasked}
 use Rattle.cpu8e.specs.QuickSteps.{is_for_user, is_quiet, Stays, Does}
 use Rattle.cpu8e.proofs.CommonLemmas.{either, within}
 use Rattle.cpu8e.proofs.UserLemmas.{refers, small}
@@ -64,6 +64,30 @@ printing_step-quiet s h =
     let parts = quiet-parts s h in
     let none : grants_interrupt s ≡ false = none-granted s.base.interrupts_on s.base.waiting s.base.held_off (is_requested s) parts.requests in
     ap (λ b. step (if b then printer_done s else s)) parts.busy ∙ rw (parts.running, none) refl
+
+pub stays-same : (s : State8e) → Stays s s
+stays-same s = record {
+  running = refl;
+  interrupts_on = refl;
+  teletype = refl;
+  user_flag = refl;
+  user_buffer = refl;
+  user_request = refl;
+  console_enabled = refl;
+  device_request = refl;
+}
+
+pub stays-on : (first old new : State8e) → Stays first old → Stays old new → Stays first new
+stays-on first old new before now = record {
+  running = now.running ∙ before.running;
+  interrupts_on = now.interrupts_on ∙ before.interrupts_on;
+  teletype = now.teletype ∙ before.teletype;
+  user_flag = now.user_flag ∙ before.user_flag;
+  user_buffer = now.user_buffer ∙ before.user_buffer;
+  user_request = now.user_request ∙ before.user_request;
+  console_enabled = now.console_enabled ∙ before.console_enabled;
+  device_request = now.device_request ∙ before.device_request;
+}
 
 pub stays-quiet : (old new : State8e) → is_quiet old ≡ true → Stays old new → is_quiet new ≡ true
 stays-quiet old new h stays =
@@ -151,17 +175,26 @@ rif-made s = record { answer = refl; stays = with-base s (Transfer8i.rif_row s.b
 apart : (n k : ℕ) → k < n → nat_eq n k ≡ false
 apart n k h = grind (arith, nat_tests)
 
-cdf-made : (s : State8e) (w : ℕ) → is_cdf w ≡ true → IsMade s (device_row s w)
-cdf-made s w h =
-    let parts = and_parts (nat_eq (w / 0o100) 0o62) (nat_eq (w % 8) 1) h in
+last_pulses : (n : ℕ) → (nat_le 1 n && nat_le n 3) ≡ true → nat_eq n 1 ≡ false → nat_eq n 2 ≡ false → n ≡ 3
+last_pulses n h not_1 not_2 =
+    let parts = and_parts (nat_le 1 n) (nat_le n 3) h in grind (arith, nat_tests, parts)
+
+fields-made : (s : State8e) (w : ℕ) → changes_fields w ≡ true → IsMade s (device_row s w)
+fields-made s w h =
+    let parts = and_parts (nat_eq (w / 0o100) 0o62) (nat_le 1 (w % 8) && nat_le (w % 8) 3) h in
     let top : w / 0o100 ≡ 0o62 = eqb-true (w / 0o100) 0o62 parts.0 in
-    let pulse : w % 8 ≡ 1 = eqb-true (w % 8) 1 parts.1 in
     let above : 4 < w / 0o10 % 0o100 = omega (arith, top) in
     let not_0 : nat_eq (w / 0o10 % 0o100) 0 ≡ false = apart (w / 0o10 % 0o100) 0 (omega (arith, above)) in
     let not_3 : nat_eq (w / 0o10 % 0o100) 3 ≡ false = apart (w / 0o10 % 0o100) 3 (omega (arith, above)) in
     let not_4 : nat_eq (w / 0o10 % 0o100) 4 ≡ false = apart (w / 0o10 % 0o100) 4 above in
-    rw (not_0, not_3, not_4, top, pulse)
-    (record { answer = refl; stays = with-base s (Transfer8i.cdf_row s.base (field_of w)) refl refl refl })
+    either (nat_eq (w % 8) 1)
+    (λ cdf. rw (not_0, not_3, not_4, top, eqb-true (w % 8) 1 cdf)
+    (record { answer = refl; stays = with-base s (Transfer8i.cdf_row s.base (field_of w)) refl refl refl }))
+    (λ not_cdf. either (nat_eq (w % 8) 2)
+    (λ cif. rw (not_0, not_3, not_4, top, eqb-true (w % 8) 2 cif)
+    (record { answer = refl; stays = with-base s (Transfer8i.cif_row s.base (field_of w)) refl refl refl }))
+    (λ not_cif. rw (not_0, not_3, not_4, top, last_pulses (w % 8) parts.1 not_cdf not_cif)
+    (record { answer = refl; stays = with-base s (Transfer8i.cdf_cif_row s.base (field_of w)) refl refl refl })))
 
 transfer-made : (s : State8e) (w : ℕ) → is_quick_transfer w ≡ true → IsMade s (device_row s w)
 transfer-made s w h = either (nat_eq w 0o6031)
@@ -172,7 +205,7 @@ transfer-made s w h = either (nat_eq w 0o6031)
     (λ yes. subst (λ n. IsMade s (device_row s n)) (sym (eqb-true w 0o6214 yes)) (rdf-made s))
     (λ not_rdf. either (nat_eq w 0o6224)
     (λ yes. subst (λ n. IsMade s (device_row s n)) (sym (eqb-true w 0o6224 yes)) (rif-made s))
-    (λ not_rif. cdf-made s w (rw (not_ksf, not_tsf, not_rdf, not_rif) at h)))))
+    (λ not_rif. fields-made s w (rw (not_ksf, not_tsf, not_rdf, not_rif) at h)))))
 
 -- ## Operates
 
@@ -256,24 +289,67 @@ pub after-quick : (k : ℕ) (s old new : State8e) → old ≡ after k s → is_q
 after-quick k s old new at h does =
     does.state ∙ (ap (λ p. p.0) (sym (printing_step-quiet old h)) ∙ (ap (λ x. (printing_step x).0) at ∙ sym (after-next k s)))
 
-pub none-unasked : (s : State8e) → AreUnasked s 0
-none-unasked s m below = absurd (omega (arith, below))
+pub none-unasked : (looks : Bool) (s : State8e) → AreUnasked looks s 0
+none-unasked looks s m below = absurd (omega (arith, below))
 
-pub unasked-next : (k : ℕ) (s old new : State8e) → old ≡ after k s → is_quiet old ≡ true → finds_no_key old ≡ false
-    → old.base.interrupts_on ≡ s.base.interrupts_on → old.console_enabled ≡ s.console_enabled → Does old (next_word old) new
-    → AreUnasked s k → AreUnasked s (k + 1)
-unasked-next k s old new at h finds interrupts console does before = below_more _ _ before (record {
+pub unasked-next : (looks : Bool) (k : ℕ) (s old new : State8e) → old ≡ after k s → is_quiet old ≡ true → may_ask looks old ≡ false
+    → Stays s old → Does old (next_word old) new → AreUnasked looks s k → AreUnasked looks s (k + 1)
+unasked-next looks k s old new at h asks stays does before = below_more _ _ before (record {
   answer = ap (λ x. (printing_step x).1) (sym at) ∙ (ap (λ p. p.1) (printing_step-quiet old h) ∙ sym does.answer);
   word = ap (λ x. is_quick (next_word x)) (sym at) ∙ does.word;
-  finds = ap (λ x. finds_no_key x) (sym at) ∙ finds;
-  interrupts = ap (λ x. x.base.interrupts_on) (sym at) ∙ interrupts;
-  console = ap (λ x. x.console_enabled) (sym at) ∙ console;
+  asks = ap (λ x. may_ask looks x) (sym at) ∙ asks;
+  interrupts = ap (λ x. x.base.interrupts_on) (sym at) ∙ stays.interrupts_on;
+  console = ap (λ x. x.console_enabled) (sym at) ∙ stays.console_enabled;
 })
+
+-- ## Steps after steps
+
+pub after-sum : (a b : ℕ) (s : State8e) → after b (after a s) ≡ after (a + b) s
+unfolding after_keys
+after-sum a zero s =
+    let none : a ≡ a + 0 = omega arith in ap (λ k. after k s) none
+after-sum a (suc b) s =
+    let one : suc (a + b) ≡ a + suc b = omega arith in
+    ap (λ x. (printing_step x).0) (after-sum a b s) ∙ ap (λ k. after k s) one
+
+pub after-more : (a b : ℕ) (s old new : State8e) → old ≡ after a s → new ≡ after b old → new ≡ after (a + b) s
+after-more a b s old new at state = state ∙ (ap (λ x. after b x) at ∙ after-sum a b s)
+
+later-unasked : (looks : Bool) (a m : ℕ) (s old : State8e) → old ≡ after a s → Stays s old → IsUnasked looks old m → IsUnasked looks s (a + m)
+later-unasked looks a m s old at stays unasked =
+    let same : after (a + m) s ≡ after m old = sym (after-sum a m s) ∙ ap (λ x. after m x) (sym at) in
+    record {
+      answer = ap (λ x. (printing_step x).1) same ∙ unasked.answer;
+      word = ap (λ x. is_quick (next_word x)) same ∙ unasked.word;
+      asks = ap (λ x. may_ask looks x) same ∙ unasked.asks;
+      interrupts = ap (λ x. x.base.interrupts_on) same ∙ (unasked.interrupts ∙ stays.interrupts_on);
+      console = ap (λ x. x.console_enabled) same ∙ (unasked.console ∙ stays.console_enabled);
+    }
+
+lower : (m a : ℕ) → nat_lt m a ≡ true → m < a
+lower m a h = grind (arith, nat_tests)
+
+not_lower : (m a b : ℕ) → nat_lt m a ≡ false → m < a + b → m - a < b
+not_lower m a b h below = grind (arith, nat_tests)
+
+apart_again : (m a : ℕ) → nat_lt m a ≡ false → a + (m - a) ≡ m
+apart_again m a h = grind (arith, nat_tests)
+
+pub unasked-more : (looks : Bool) (a b : ℕ) (s old : State8e) → old ≡ after a s → Stays s old → AreUnasked looks s a → AreUnasked looks old b
+    → AreUnasked looks s (a + b)
+unasked-more looks a b s old at stays first second m below = either (nat_lt m a)
+    (λ early. first m (lower m a early))
+    (λ late. subst (λ k. IsUnasked looks s k) (apart_again m a late)
+    (later-unasked looks a (m - a) s old at stays (second (m - a) (not_lower m a b late below))))
 
 -- ## Steps that are left, where a loop counts down
 
 pub none-made : (n : ℕ) → 0 ≡ n - n
 none-made n = omega arith
+
+-- so many are made where fewer are left than were
+pub more-made : (n left fewer : ℕ) → fewer ≤ left → left ≤ n → n - left + (left - fewer) ≡ n - fewer
+more-made n left fewer less fits = omega (arith, less, fits)
 
 -- one step fewer is left when one more is made
 pub one-more : (n left : ℕ) → 0 < left → left ≤ n → n - left + 1 ≡ n - (left - 1)

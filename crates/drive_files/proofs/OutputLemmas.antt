@@ -87,16 +87,17 @@ pack-text false pack place saved saved' old result new p = ap output_text p.0.1
 pack-text true pack place saved saved' old result new (inl p) = wants-text old result new p.0
 pack-text true pack place saved saved' old result new (inr (file, is, p)) = bytes-text (bytes_eq file saved) file place saved saved' old result new p
 
-drive-text : (pack : Option PackState) (place : Option ImagePlace) (saved saved' : List ℕ) (old : List Event) (result : Result (Unit {0}) Ending) (new : List Event)
-    → SavesDrive pack place saved saved' old result new → KeepsText old new
-drive-text None place saved saved' old result new p = ap output_text p.0.1
-drive-text (Some pack) None saved saved' old result new p = ap output_text p.0.1
-drive-text (Some pack) (Some place) saved saved' old result new p = pack-text pack.changed pack place saved saved' old result new p
+drive-text : (drive : ℕ) (pack : Option PackState) (place : Option ImagePlace) (saved saved' : List ℕ) (old : List Event) (result : Result (Unit {0}) Ending) (new : List Event)
+    → SavesDrive drive pack place saved saved' old result new → KeepsText old new
+drive-text drive None place saved saved' old result new p = ap output_text p.0.1
+drive-text drive (Some pack) None saved saved' old result new p = ap output_text p.0.1
+drive-text drive (Some pack) (Some place) saved saved' old (Ok it) new p = pack-text pack.changed pack place saved saved' old (Ok it) new p
+drive-text drive (Some pack) (Some place) saved saved' old (Err ended) new (ending, p, is) = pack-text pack.changed pack place saved saved' old (Err ending) new p
 
 pub saves-text : (disk : DiskState) (places places' : Places) (old : List Event) (result : Result (Unit {0}) Ending) (new : List Event)
     → SavesDrives disk places places' old result new → output_text new ≡ output_text old
 saves-text disk places places' old result new s =
-    drive-text disk.drive3.pack places.place3 places.rooms.saved3.items places'.rooms.saved3.items s.after_third s.fourth new s.saves3
-    ∙ (drive-text disk.drive2.pack places.place2 places.rooms.saved2.items places'.rooms.saved2.items s.after_second s.third s.after_third s.saves2
-    ∙ (drive-text disk.drive1.pack places.place1 places.rooms.saved1.items places'.rooms.saved1.items s.after_first s.second s.after_second s.saves1
-    ∙ drive-text disk.drive0.pack places.place0 places.rooms.saved0.items places'.rooms.saved0.items old s.first s.after_first s.saves0))
+    drive-text 3 disk.drive3.pack places.place3 places.rooms.saved3.items places'.rooms.saved3.items s.after_third s.fourth new s.saves3
+    ∙ (drive-text 2 disk.drive2.pack places.place2 places.rooms.saved2.items places'.rooms.saved2.items s.after_second s.third s.after_third s.saves2
+    ∙ (drive-text 1 disk.drive1.pack places.place1 places.rooms.saved1.items places'.rooms.saved1.items s.after_first s.second s.after_second s.saves1
+    ∙ drive-text 0 disk.drive0.pack places.place0 places.rooms.saved0.items places'.rooms.saved0.items old s.first s.after_first s.saves0))

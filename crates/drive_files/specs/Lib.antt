@@ -1,4 +1,5 @@
 pub mod Laws
+pub mod Drives
 pub mod Mounting
 pub mod Opening
 pub mod Saving

@@ -19,8 +19,10 @@ use Rattle.outcome.specs.declared.endings.Ending.{Ending}
 use Rattle.outcome.specs.declared.endings.Ending.TheVariants.{Line, Fault, NotWritten}
 use Rattle.image_files.specs.Reading.{Holds, Looks, looked_name}
 use Rattle.image_files.specs.Reasons.{TellsReason}
+use Rattle.image_files.specs.Waiting.{Within}
 use Rattle.image_files.specs.Work.{Then, Purely, IsJust}
 use Rattle.image_files.specs.declared.reading.ImagePlace.{ImagePlace}
+use Rattle.drive_files.specs.Drives.{OfDrive}
 use Rattle.drive_files.specs.declared.opening.OpenDisk.{OpenDisk}
 use Rattle.drive_files.specs.declared.opening.OpenDrives.{OpenDrives}
 use Rattle.drive_files.specs.declared.opening.SaveRooms.{SaveRooms}
@@ -33,14 +35,14 @@ IsWritable place true name old result new = IsJust place result × (new ≡ old)
 IsWritable place false name old (Ok it) new = ⊥
 IsWritable place false name old (Err ending) new = (ending ≡ NotWritten Image AsItWas) × TellsReason (reason.Fault place.why) name old new
 
--- a file is held, to be saved later
-abbrev pub HoldsToWrite : List ℕ → List Event → Result ImagePlace Ending → List Event → Type 0
-HoldsToWrite name = Then (Holds name) (λ place. IsWritable place place.is_held name)
+-- a file is held, to be saved later; while another program holds it, it is waited for so many seconds
+abbrev pub HoldsToWrite : ℕ → List ℕ → List Event → Result ImagePlace Ending → List Event → Type 0
+HoldsToWrite seconds name = Then (Within seconds name (Holds name)) (λ place. IsWritable place place.is_held name)
 
 -- where a file is to be saved
-abbrev pub HoldsIf : Bool → List ℕ → List Event → Result (Option ImagePlace) Ending → List Event → Type 0
-HoldsIf true name = Then (HoldsToWrite name) (λ place. Purely (IsJust (Some place)))
-HoldsIf false name = Purely (IsJust None)
+abbrev pub HoldsIf : Bool → ℕ → List ℕ → List Event → Result (Option ImagePlace) Ending → List Event → Type 0
+HoldsIf true seconds name = Then (HoldsToWrite seconds name) (λ place. Purely (IsJust (Some place)))
+HoldsIf false seconds name = Purely (IsJust None)
 
 -- ## Reading
 
@@ -72,16 +74,20 @@ abbrev pub open_disk : PackState → Option ImagePlace → OpenDisk
 open_disk pack place = record { pack = pack; place = place }
 
 -- the disk in a file, which is held first where it is to be saved
-abbrev pub OpensDisk : Bool → List ℕ → List Event → Result OpenDisk Ending → List Event → Type 0
-OpensDisk is_kept name = Then (HoldsIf is_kept name) (λ place. Then (LooksIn place name) (λ bytes. Then (TakesPack name bytes.items) (λ pack. Purely (IsJust (open_disk pack place)))))
+abbrev pub OpensDisk : Bool → ℕ → List ℕ → List Event → Result OpenDisk Ending → List Event → Type 0
+OpensDisk is_kept seconds name = Then (HoldsIf is_kept seconds name) (λ place. Then (LooksIn place name) (λ bytes. Then (TakesPack name bytes.items) (λ pack. Purely (IsJust (open_disk pack place)))))
 
--- that of a drive, if it has one; a file that is only looked at, or whose drive is locked, isn't saved
-abbrev pub OpensNamed : Bool → Option (String Global) → List Event → Result (Option OpenDisk) Ending → List Event → Type 0
-OpensNamed is_kept None = Purely (IsJust None)
-OpensNamed is_kept (Some name) = Then (OpensDisk is_kept name.bytes.items) (λ disk. Purely (IsJust (Some disk)))
+-- a file that is only looked at, or whose drive is locked, isn't saved
+abbrev pub is_kept : DriveForm → DiskForm → Bool
+is_kept given form = not form.is_look && not given.is_locked
 
-abbrev pub OpensDrive : Bool → DriveForm → List Event → Result (Option OpenDisk) Ending → List Event → Type 0
-OpensDrive is_look drive = OpensNamed (not is_look && not drive.is_locked) drive.image
+-- the disk of a drive, if it has one
+abbrev pub OpensNamed : ℕ → Bool → ℕ → Option (String Global) → List Event → Result (Option OpenDisk) Ending → List Event → Type 0
+OpensNamed drive is_kept seconds None = Purely (IsJust None)
+OpensNamed drive is_kept seconds (Some name) = Then (OfDrive drive (OpensDisk is_kept seconds name.bytes.items)) (λ disk. Purely (IsJust (Some disk)))
+
+abbrev pub OpensDrive : ℕ → DriveForm → DiskForm → List Event → Result (Option OpenDisk) Ending → List Event → Type 0
+OpensDrive drive given form = OpensNamed drive (is_kept given form) form.wait given.image
 
 -- a drive has a file that is to be saved
 abbrev pub is_saved : Bool → DriveForm → Bool
@@ -103,5 +109,5 @@ AreOpen disk0 disk1 disk2 disk3 (Err ending) = ending ≡ Fault Memory
 -- one after the other
 abbrev pub OpensDrives : DiskForm → List Event → Result OpenDrives Ending → List Event → Type 0
 OpensDrives form =
-    Then (OpensDrive form.is_look form.drive0) (λ disk0. Then (OpensDrive form.is_look form.drive1) (λ disk1. Then (OpensDrive form.is_look form.drive2) (λ disk2.
-    Then (OpensDrive form.is_look form.drive3) (λ disk3. Purely (AreOpen disk0 disk1 disk2 disk3)))))
+    Then (OpensDrive 0 form.drive0 form) (λ disk0. Then (OpensDrive 1 form.drive1 form) (λ disk1. Then (OpensDrive 2 form.drive2 form) (λ disk2.
+    Then (OpensDrive 3 form.drive3 form) (λ disk3. Purely (AreOpen disk0 disk1 disk2 disk3)))))

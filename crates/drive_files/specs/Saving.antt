@@ -10,6 +10,7 @@ use Rattle.outcome.specs.declared.endings.Ending.{Ending}
 use Rattle.outcome.specs.declared.endings.Ending.TheVariants.{Fault}
 use Rattle.image_files.specs.Saving.{IsDone, Writes}
 use Rattle.image_files.specs.declared.reading.ImagePlace.{ImagePlace}
+use Rattle.drive_files.specs.Drives.{OfDrive}
 use Rattle.drive_files.specs.declared.mounting.Places.{Places}
 
 -- nothing is asked of the host
@@ -38,10 +39,10 @@ SavesPack true pack place saved saved' old result new = (WantsMemory old result 
     ⊎ ((file : List ℕ) × IsFileOf file pack × SavesBytes (bytes_eq file saved) file place saved saved' old result new)
 
 -- a drive with a disk whose file is held
-abbrev pub SavesDrive : Option PackState → Option ImagePlace → List ℕ → List ℕ → List Event → Result (Unit {0}) Ending → List Event → Type 0
-SavesDrive None place saved saved' old result new = SavesNothing old result new × (saved' ≡ saved)
-SavesDrive (Some pack) None saved saved' old result new = SavesNothing old result new × (saved' ≡ saved)
-SavesDrive (Some pack) (Some place) saved saved' old result new = SavesPack pack.changed pack place saved saved' old result new
+abbrev pub SavesDrive : ℕ → Option PackState → Option ImagePlace → List ℕ → List ℕ → List Event → Result (Unit {0}) Ending → List Event → Type 0
+SavesDrive drive None place saved saved' old result new = SavesNothing old result new × (saved' ≡ saved)
+SavesDrive drive (Some pack) None saved saved' old result new = SavesNothing old result new × (saved' ≡ saved)
+SavesDrive drive (Some pack) (Some place) saved saved' old result new = OfDrive drive (SavesPack pack.changed pack place saved saved') old result new
 
 -- the first of two ends that is a fault
 abbrev pub earlier : Result (Unit {0}) Ending → Result (Unit {0}) Ending → Result (Unit {0}) Ending
@@ -61,9 +62,9 @@ pub record SavesDrives (disk : DiskState) (places places' : Places) (old : List 
   pub after_first : List Event
   pub after_second : List Event
   pub after_third : List Event
-  pub saves0 : SavesDrive disk.drive0.pack places.place0 places.rooms.saved0.items places'.rooms.saved0.items old first after_first
-  pub saves1 : SavesDrive disk.drive1.pack places.place1 places.rooms.saved1.items places'.rooms.saved1.items after_first second after_second
-  pub saves2 : SavesDrive disk.drive2.pack places.place2 places.rooms.saved2.items places'.rooms.saved2.items after_second third after_third
-  pub saves3 : SavesDrive disk.drive3.pack places.place3 places.rooms.saved3.items places'.rooms.saved3.items after_third fourth new
+  pub saves0 : SavesDrive 0 disk.drive0.pack places.place0 places.rooms.saved0.items places'.rooms.saved0.items old first after_first
+  pub saves1 : SavesDrive 1 disk.drive1.pack places.place1 places.rooms.saved1.items places'.rooms.saved1.items after_first second after_second
+  pub saves2 : SavesDrive 2 disk.drive2.pack places.place2 places.rooms.saved2.items places'.rooms.saved2.items after_second third after_third
+  pub saves3 : SavesDrive 3 disk.drive3.pack places.place3 places.rooms.saved3.items places'.rooms.saved3.items after_third fourth new
   pub same : ArePlaces places places'
   pub is : result ≡ earlier first (earlier second (earlier third fourth))

@@ -5,7 +5,7 @@ ghost use Rattle.drive_files.specs.Consoles as spec;
 use cpu8::Stepped;
 use pdp8e::Machine;
 use program_tasks::ConsoleForm;
-use terminal8e::{TerminalMachine, steps_before_look};
+use terminal8e::{TerminalMachine, is_late, steps_before_look};
 
 /// A machine, and whether small letters are struck as capitals at its keyboard.
 #[derive(Drop)]
@@ -72,7 +72,7 @@ impl TerminalMachine for Console {
     #[inline]
     fn make_quick_steps(&mut self, since: u64, n: u64) -> u64 {
         let most = steps_before_look(since, self.machine.processor(), n);
-        self.machine.run_unasked(most) as u64
+        self.machine.run_unasked(most, is_late(since)) as u64
     }
 }
 

@@ -3,6 +3,7 @@
 #![tactic(auto)]
 
 mod consoles;
+mod drives;
 mod inputs;
 pub mod laws;
 mod mounting;

@@ -1,9 +1,11 @@
 //! The files of the disks, held where they are to be saved, and read.
 ghost use Rattle.std.specs.Prelude.{◌≡◌, [], IfOk};
-ghost use Rattle.drive_files.specs.Opening.{HaveSavedNone, HoldsIf, HoldsToWrite, LooksIn, OpensDisk, OpensDrive, OpensDrives, RefusesPack, TakesPack, ending_of_pack};
+ghost use Rattle.drive_files.specs.Drives.{OfDrive};
+ghost use Rattle.drive_files.specs.Opening.{HaveSavedNone, HoldsIf, HoldsToWrite, LooksIn, OpensDisk, OpensDrive, OpensDrives, RefusesPack, TakesPack, ending_of_pack, is_kept};
 
+use crate::drives::of_drive;
 use hosts::{Host, Unwritten};
-use image_files::{ImagePlace, hold, look, look_file, tell_note, tell_reason};
+use image_files::{ImagePlace, hold_within, look, look_file, tell_note, tell_reason};
 use outcome::{Content, Ending, NameNote, Note, Reason};
 use program_reports::ProgramLine;
 use program_tasks::{DiskForm, DriveForm};
@@ -52,10 +54,10 @@ pub fn open_drives<H: Host>(
 ) -> Result<OpenDrives, Ending>
     ensures { OpensDrives form.now (H.history host.old) result (H.history host.new) }
 {
-    let disk0 = open_drive(host, alloc, &form.drive0, form.is_look)?;
-    let disk1 = open_drive(host, alloc, &form.drive1, form.is_look)?;
-    let disk2 = open_drive(host, alloc, &form.drive2, form.is_look)?;
-    let disk3 = open_drive(host, alloc, &form.drive3, form.is_look)?;
+    let disk0 = open_drive(host, alloc, 0, &form.drive0, form)?;
+    let disk1 = open_drive(host, alloc, 1, &form.drive1, form)?;
+    let disk2 = open_drive(host, alloc, 2, &form.drive2, form)?;
+    let disk3 = open_drive(host, alloc, 3, &form.drive3, form)?;
     let rooms = take_rooms(alloc, &disk0, &disk1, &disk2, &disk3, !form.is_look)?;
     Ok(OpenDrives {
         disk0,
@@ -110,34 +112,63 @@ fn room_for(alloc: Global, is_saved: bool) -> Result<Vec<u8>, AllocError>
     Ok(room)
 }
 
-/// Opens the disk of a drive, if it has one. A file that is only looked at, or whose drive is locked, is read and not held.
+/// Opens the disk of a drive, 0 to 3, if it has one. A file that is only looked at, or whose drive is locked, is read and not held.
 fn open_drive<H: Host>(
     host: &mut H,
     alloc: Global,
-    drive: &DriveForm,
-    is_look: bool,
+    drive: u8,
+    given: &DriveForm,
+    form: &DiskForm,
 ) -> Result<Option<OpenDisk>, Ending>
-    ensures { OpensDrive is_look drive.now (H.history host.old) result (H.history host.new) }
+    ensures { OpensDrive drive given.now form.now (H.history host.old) result (H.history host.new) }
 {
-    match &drive.image {
+    match &given.image {
         None => Ok(None),
         Some(name) => {
-            let disk = open_disk(host, alloc, name.as_str(), !is_look && !drive.is_locked)?;
-            Ok(Some(disk))
+            let is_kept = is_kept(given, form);
+            match open_disk_of(host, alloc, drive, name.as_str(), is_kept, form.wait) {
+                Ok(disk) => Ok(Some(disk)),
+                Err(ending) => Err(ending),
+            }
         }
     }
 }
 
-/// Opens the disk in a file, which is held before it is read where it is to be saved.
+/// Whether the file of a drive's disk is to be saved.
+fn is_kept(given: &DriveForm, form: &DiskForm) -> bool
+    ensures { result ≡ is_kept given.now form.now }
+{
+    !form.is_look && !given.is_locked
+}
+
+/// Opens the disk in the file of a drive. Where it is refused, the end names the drive.
+fn open_disk_of<H: Host>(
+    host: &mut H,
+    alloc: Global,
+    drive: u8,
+    name: &str,
+    is_kept: bool,
+    seconds: usize,
+) -> Result<OpenDisk, Ending>
+    ensures { OfDrive drive (OpensDisk is_kept seconds name.now) (H.history host.old) result (H.history host.new) }
+{
+    match open_disk(host, alloc, name, is_kept, seconds) {
+        Ok(disk) => Ok(disk),
+        Err(ending) => Err(of_drive(drive, ending)),
+    }
+}
+
+/// Opens the disk in a file, which is held before it is read where it is to be saved, and waited for so many seconds.
 fn open_disk<H: Host>(
     host: &mut H,
     alloc: Global,
     name: &str,
     is_kept: bool,
+    seconds: usize,
 ) -> Result<OpenDisk, Ending>
-    ensures { OpensDisk is_kept name.now (H.history host.old) result (H.history host.new) }
+    ensures { OpensDisk is_kept seconds name.now (H.history host.old) result (H.history host.new) }
 {
-    let place = hold_if(host, alloc, name, is_kept)?;
+    let place = hold_if(host, alloc, name, is_kept, seconds)?;
     let bytes = look_in(host, alloc, name, &place)?;
     let pack = take_pack(host, alloc, name, &bytes)?;
     Ok(OpenDisk { pack, place })
@@ -149,21 +180,28 @@ fn hold_if<H: Host>(
     alloc: Global,
     name: &str,
     is_kept: bool,
+    seconds: usize,
 ) -> Result<Option<ImagePlace>, Ending>
-    ensures { HoldsIf is_kept name.now (H.history host.old) result (H.history host.new) }
+    ensures { HoldsIf is_kept seconds name.now (H.history host.old) result (H.history host.new) }
 {
     if !is_kept {
         return Ok(None);
     }
-    let place = hold_to_write(host, alloc, name)?;
+    let place = hold_to_write(host, alloc, name, seconds)?;
     Ok(Some(place))
 }
 
-/// Holds a file. One that may not be written is refused, and why is printed.
-fn hold_to_write<H: Host>(host: &mut H, alloc: Global, name: &str) -> Result<ImagePlace, Ending>
-    ensures { HoldsToWrite name.now (H.history host.old) result (H.history host.new) }
+/// Holds a file, which is waited for so many seconds while another program holds it. One that may not be written is refused, and why is
+/// printed.
+fn hold_to_write<H: Host>(
+    host: &mut H,
+    alloc: Global,
+    name: &str,
+    seconds: usize,
+) -> Result<ImagePlace, Ending>
+    ensures { HoldsToWrite seconds name.now (H.history host.old) result (H.history host.new) }
 {
-    let place = hold(host, alloc, name)?;
+    let place = hold_within(host, alloc, name, seconds)?;
     if !place.is_held {
         tell_reason(host, alloc, name, Reason::Fault(place.why));
         return Err(Ending::NotWritten(Content::Image, Unwritten::AsItWas));

@@ -1,9 +1,11 @@
 //! The files of the disks at the end of a run, and in it.
 ghost use Rattle.std.specs.Prelude.{◌≡◌};
 ghost use Rattle.rk8e.specs.State.{drive_of};
+ghost use Rattle.drive_files.specs.Drives.{OfDrive};
 ghost use Rattle.drive_files.specs.Saving as spec;
 ghost use Rattle.drive_files.specs.Saving.{SavesDrive, SavesDrives, SavesPack};
 
+use crate::drives::of_drive;
 use crate::mounting::Places;
 use hosts::Host;
 use image_files::{ImagePlace, write_file};
@@ -78,7 +80,7 @@ fn save_drive<H: Host>(
     spare: &mut Vec<u8>,
     saves: &mut u64,
 ) -> Result<(), Ending>
-    ensures saves { SavesDrive (drive_of machine.old.disk drive).pack place.now saved.old.items saved.new.items (H.history host.old) result (H.history host.new) }
+    ensures saves { SavesDrive drive (drive_of machine.old.disk drive).pack place.now saved.old.items saved.new.items (H.history host.old) result (H.history host.new) }
     ensures machine { machine.new ≡ machine.old }
 {
     let Some(place) = place else {
@@ -88,10 +90,29 @@ fn save_drive<H: Host>(
     match machine.take_pack(drive) {
         None => Ok(()),
         Some(pack) => {
-            let result = save_pack(host, alloc, &pack, place, saved, spare, saves);
+            let result = save_pack_of(host, alloc, drive, &pack, place, saved, spare, saves);
             machine.put_pack(drive, pack);
             result
         }
+    }
+}
+
+/// Saves the disk of a drive as `save_pack` does. Where that fails, the end names the drive.
+fn save_pack_of<H: Host>(
+    host: &mut H,
+    alloc: Global,
+    drive: u8,
+    pack: &Pack,
+    place: &ImagePlace,
+    saved: &mut Vec<u8>,
+    spare: &mut Vec<u8>,
+    saves: &mut u64,
+) -> Result<(), Ending>
+    ensures { OfDrive drive (SavesPack pack.now.changed pack.now place.now saved.old.items saved.new.items) (H.history host.old) result (H.history host.new) }
+{
+    match save_pack(host, alloc, pack, place, saved, spare, saves) {
+        Ok(()) => Ok(()),
+        Err(ending) => Err(of_drive(drive, ending)),
     }
 }
 

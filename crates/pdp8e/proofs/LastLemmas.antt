@@ -227,30 +227,30 @@ abbrev pub MeetsNone : State8e → ℕ → Type 0
 MeetsNone s count = (j : ℕ) → j < count → is_for_devices (next_word (CpuRuns.after j s)) ≡ false
 
 -- the step after the first k
-next_lasting : Requests → (m : Pdp8e) (count : ℕ) → IsJoined m → Lasts m count → CpuUnasked.AreUnasked m.processor count → MeetsNone m.processor count
+next_lasting : Requests → (looks : Bool) (m : Pdp8e) (count : ℕ) → IsJoined m → Lasts m count → CpuUnasked.AreUnasked looks m.processor count → MeetsNone m.processor count
     → (k : ℕ) → k < count → printing_step (after_time k m (CpuRuns.after k m.processor))
     ≡ alone (passing (after_time k m (CpuRuns.after k m.processor))) (CpuRuns.printing_step (CpuRuns.after k m.processor))
-next_lasting stays m count is l unasked none k below =
+next_lasting stays looks m count is l unasked none k below =
     let s = CpuRuns.after k m.processor in
     let e : count ≡ k + suc (count - suc k) = omega (arith, below) in
     printing_lasting stays (after_time k m s) s (count - suc k) (run_requests stays (λ _. None) k m.processor ∙ is)
     (lasts_rest m s k (suc (count - suc k)) (subst (λ (n : ℕ). Lasts m n) e l)) (none k below) (unasked k below).answer
 
-pub after_lasting : Requests → (m : Pdp8e) (count : ℕ) → IsJoined m → Lasts m count → CpuUnasked.AreUnasked m.processor count → MeetsNone m.processor count
+pub after_lasting : Requests → (looks : Bool) (m : Pdp8e) (count : ℕ) → IsJoined m → Lasts m count → CpuUnasked.AreUnasked looks m.processor count → MeetsNone m.processor count
     → (k : ℕ) → k ≤ count → after k m ≡ after_time k m (CpuRuns.after k m.processor)
 unfolding after_keys CpuRuns.after_keys
-after_lasting stays m count is l unasked none zero within = passed_none m
-after_lasting stays m count is l unasked none (suc k) within =
+after_lasting stays looks m count is l unasked none zero within = passed_none m
+after_lasting stays looks m count is l unasked none (suc k) within =
     let s = CpuRuns.after k m.processor in
-    ap (λ (x : Pdp8e). (printing_step x).0) (after_lasting stays m count is l unasked none k (omega (arith, within)))
-    ∙ ap (λ (r : Pdp8e × Stepped). r.0) (next_lasting stays m count is l unasked none k (omega (arith, within)))
+    ap (λ (x : Pdp8e). (printing_step x).0) (after_lasting stays looks m count is l unasked none k (omega (arith, within)))
+    ∙ ap (λ (r : Pdp8e × Stepped). r.0) (next_lasting stays looks m count is l unasked none k (omega (arith, within)))
     ∙ passed_more m s (CpuRuns.printing_step s).0 k
 
-pub answers_lasting : Requests → (m : Pdp8e) (count : ℕ) → IsJoined m → Lasts m count → CpuUnasked.AreUnasked m.processor count → MeetsNone m.processor count
+pub answers_lasting : Requests → (looks : Bool) (m : Pdp8e) (count : ℕ) → IsJoined m → Lasts m count → CpuUnasked.AreUnasked looks m.processor count → MeetsNone m.processor count
     → (k : ℕ) → k < count → (printing_step (after k m)).1 ≡ Ran None
-answers_lasting stays m count is l unasked none k below =
-    ap (λ (x : Pdp8e). (printing_step x).1) (after_lasting stays m count is l unasked none k (omega (arith, below)))
-    ∙ ap (λ (r : Pdp8e × Stepped). r.1) (next_lasting stays m count is l unasked none k below)
+answers_lasting stays looks m count is l unasked none k below =
+    ap (λ (x : Pdp8e). (printing_step x).1) (after_lasting stays looks m count is l unasked none k (omega (arith, below)))
+    ∙ ap (λ (r : Pdp8e × Stepped). r.1) (next_lasting stays looks m count is l unasked none k below)
     ∙ (unasked k below).answer
 
 -- ## The least time

@@ -6,7 +6,7 @@ use Rattle.cpu8e.specs.State.{State8e}
 use Rattle.cpu8e.specs.Step.{is_jump, is_transfer, next_word}
 use Rattle.cpu8e.specs.Runs as CpuRuns
 use Rattle.cpu8e.specs.Unasked as Cpu
-use Rattle.cpu8e.specs.Unasked.{is_cdf, is_quick, is_quick_transfer}
+use Rattle.cpu8e.specs.Unasked.{changes_fields, is_quick, is_quick_transfer}
 use Rattle.terminal8e.specs.AnyTerminal as any
 use Rattle.terminal8e.specs.AnyTerminal.{GoesUnasked}
 use Rattle.terminal8e.specs.Asks as CpuAsks
@@ -55,8 +55,8 @@ transfer_other w h = either (nat_eq w 0o6031)
     (λ not_rdf. either (nat_eq w 0o6224)
     (λ yes. ap (λ n. is_for_devices n) (eqb-true w 0o6224 yes))
     (λ not_rif.
-    let cdf : is_cdf w ≡ true = rw (not_ksf, not_tsf, not_rdf, not_rif) at h in
-    fields_other w (eqb-true (w / 0o100) 0o62 (and_parts (nat_eq (w / 0o100) 0o62) (nat_eq (w % 8) 1) cdf).0)))))
+    let fields : changes_fields w ≡ true = rw (not_ksf, not_tsf, not_rdf, not_rif) at h in
+    fields_other w (eqb-true (w / 0o100) 0o62 (and_parts (nat_eq (w / 0o100) 0o62) (nat_le 1 (w % 8) && nat_le (w % 8) 3) fields).0)))))
 
 quick_other : (w : ℕ) → is_quick w ≡ true → is_for_devices w ≡ false
 quick_other w h = either (is_jump w)
@@ -67,24 +67,24 @@ quick_other w h = either (is_jump w)
 
 -- ## Steps
 
-meets_none : (s : State8e) (count : ℕ) → Cpu.AreUnasked s count → MeetsNone s count
-meets_none s count unasked j below = quick_other (next_word (CpuRuns.after j s)) (unasked j below).word
+meets_none : (looks : Bool) (s : State8e) (count : ℕ) → Cpu.AreUnasked looks s count → MeetsNone s count
+meets_none looks s count unasked j below = quick_other (next_word (CpuRuns.after j s)) (unasked j below).word
 
-pub unasked_steps : Requests → (m : Pdp8e) → IsJoined m → (count most : ℕ) → count ≤ most → Lasts m most → Cpu.AreUnasked m.processor count → AreUnasked m count
-unasked_steps stays m sees count most within all unasked =
+pub unasked_steps : Requests → (looks : Bool) (m : Pdp8e) → IsJoined m → (count most : ℕ) → count ≤ most → Lasts m most → Cpu.AreUnasked looks m.processor count → AreUnasked looks m count
+unasked_steps stays looks m sees count most within all unasked =
     let lasts = lasts_fewer m count most within all in
-    let none = meets_none m.processor count unasked in
+    let none = meets_none looks m.processor count unasked in
     record {
       processor = unasked;
-      passes = after_lasting stays m count sees lasts unasked none;
-      answers = answers_lasting stays m count sees lasts unasked none;
+      passes = after_lasting stays looks m count sees lasts unasked none;
+      answers = answers_lasting stays looks m count sees lasts unasked none;
     }
 
 -- the state after them, where the machine is another's by its parts
-pub state_passed : (m now : Pdp8e) → m ≡ now → (s : State8e) (d : DiskState) (v : DevicesState) (count : ℕ) → AreUnasked now count
+pub state_passed : (looks : Bool) (m now : Pdp8e) → m ≡ now → (s : State8e) (d : DiskState) (v : DevicesState) (count : ℕ) → AreUnasked looks now count
     → s ≡ CpuRuns.after count m.processor → d ≡ disk_after m.disk count → v ≡ instructions_after m.devices count
     → record { processor = s; disk = d; devices = v } ≡ after count now
-state_passed m now same s d v count unasked processor disk devices =
+state_passed looks m now same s d v count unasked processor disk devices =
     ap (λ (x : State8e). let y : Pdp8e = record { processor = x; disk = d; devices = v } in y) processor
     ∙ ap (λ (x : DiskState). let y : Pdp8e = record { processor = CpuRuns.after count m.processor; disk = x; devices = v } in y) disk
     ∙ ap (λ (x : DevicesState). let y : Pdp8e = record { processor = CpuRuns.after count m.processor; disk = disk_after m.disk count; devices = x } in y) devices
@@ -92,9 +92,9 @@ state_passed m now same s d v count unasked processor disk devices =
     ∙ sym (unasked.passes count (omega arith))
 
 -- and where nothing is under way
-pub state_quiet : (m now : Pdp8e) → m ≡ now → (s : State8e) (count : ℕ) → AreUnasked now count → is_quiet m.disk m.devices ≡ true
+pub state_quiet : (looks : Bool) (m now : Pdp8e) → m ≡ now → (s : State8e) (count : ℕ) → AreUnasked looks now count → is_quiet m.disk m.devices ≡ true
     → s ≡ CpuRuns.after count m.processor → with_processor m s ≡ after count now
-state_quiet m now same s count unasked quiet processor =
+state_quiet looks m now same s count unasked quiet processor =
     ap (λ (x : State8e). with_processor m x) processor
     ∙ sym (passed_quiet m (CpuRuns.after count m.processor) count quiet)
     ∙ ap (λ (x : Pdp8e). after_time count x (CpuRuns.after count x.processor)) same
@@ -105,9 +105,9 @@ unfolding after_keys
 after_none m = refl
 
 -- where no step is made
-pub none_unasked : (m : Pdp8e) → AreUnasked m 0
+pub none_unasked : (looks : Bool) (m : Pdp8e) → AreUnasked looks m 0
 unfolding CpuRuns.after_keys
-none_unasked m = record {
+none_unasked looks m = record {
   processor = λ k below. absurd (omega (arith, below));
   passes = λ k within. let e : k ≡ 0 = omega (arith, within) in
       subst (λ n. after n m ≡ after_time n m (CpuRuns.after n m.processor)) (sym e) (sym (after_none m) ∙ passed_none m);
@@ -120,8 +120,8 @@ asks_not : (a b : Bool) → a ≡ false → (a && b) ≡ false
 asks_not true b h = absurd (true≢false h)
 asks_not false b h = refl
 
-pub none_asked : (m : Pdp8e) (since count : ℕ) → AreUnasked m count
-    → ((j : ℕ) → j < count → (nat_le 30000 (since + j) && (m.processor.base.interrupts_on && m.processor.console_enabled)) ≡ false)
+pub none_asked : (m : Pdp8e) (since count : ℕ) → AreUnasked (nat_le 30000 since) m count
+    → ((j : ℕ) → j < count → (nat_le 30000 (since + j) && (not (nat_le 30000 since) || (m.processor.base.interrupts_on && m.processor.console_enabled))) ≡ false)
     → (k : ℕ) → k < count → asks_for_key (since + k) (after k m) ≡ false
 none_asked m since count unasked sooner k below =
     let s = CpuRuns.after k m.processor in
@@ -135,8 +135,8 @@ unfolding any.after after_keys
 same_after zero m = refl
 same_after (suc k) m = ap (λ (x : Pdp8e). (printing_step x).0) (same_after k m)
 
-pub goes_unasked : (m new : Pdp8e) (since count : ℕ) → new ≡ after count m → AreUnasked m count
-    → ((j : ℕ) → j < count → (nat_le 30000 (since + j) && (m.processor.base.interrupts_on && m.processor.console_enabled)) ≡ false)
+pub goes_unasked : (m new : Pdp8e) (since count : ℕ) → new ≡ after count m → AreUnasked (nat_le 30000 since) m count
+    → ((j : ℕ) → j < count → (nat_le 30000 (since + j) && (not (nat_le 30000 since) || (m.processor.base.interrupts_on && m.processor.console_enabled))) ≡ false)
     → GoesUnasked terminal_acts since count m new
 goes_unasked m new since count state unasked sooner = record {
   state = state ∙ sym (same_after count m);

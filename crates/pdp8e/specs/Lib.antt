@@ -4,6 +4,7 @@ pub mod State
 pub mod Step
 pub mod Runs
 pub mod Lasting
+pub mod Papers
 pub mod Asks
 pub mod Terminal
 pub mod TerminalSteps

@@ -1,5 +1,5 @@
 -- Runs of the whole 8/E. The printer ends its character before each step that finds it busy.
-use Rattle.std.specs.Prelude.{◌≡◌, ℕ, zero, suc, ◌<◌, ◌≤◌, if◌then◌else◌, Option, Some, None}
+use Rattle.std.specs.Prelude.{◌≡◌, ℕ, zero, suc, ◌<◌, ◌≤◌, Bool, if◌then◌else◌, Option, Some, None}
 use Rattle.cpu8.specs.declared.outcomes.Stepped.{Stepped}
 use Rattle.cpu8.specs.declared.outcomes.Stepped.TheVariants.{Ran}
 use Rattle.cpu8e.specs.Runs as CpuRuns
@@ -41,9 +41,9 @@ after_time count m processor = record {
   devices = instructions_after m.devices count;
 }
 
--- In so many steps that are quickly made the program asks for no key. They are instructions of the processor alone, which pass for what is
+-- In so many steps that are quickly made the program waits for no key nor, if looks count, looks for one. They are instructions of the processor alone, which pass for what is
 -- under way, and end nothing.
-pub record AreUnasked (m : Pdp8e) (count : ℕ) : Type 0 where
-  pub processor : Cpu.AreUnasked m.processor count
+pub record AreUnasked (looks : Bool) (m : Pdp8e) (count : ℕ) : Type 0 where
+  pub processor : Cpu.AreUnasked looks m.processor count
   pub passes : (k : ℕ) → k ≤ count → after k m ≡ after_time k m (CpuRuns.after k m.processor)
   pub answers : (k : ℕ) → k < count → (printing_step (after k m)).1 ≡ Ran None

@@ -5,7 +5,7 @@ ghost use Rattle.pdp8e.specs.Asks.{is_ending, is_interrupting, is_at_rest};
 
 use crate::Machine;
 use cpu8::Stepped;
-use terminal8e::{TerminalMachine, asks_for_key, steps_before_look, waits_for_key};
+use terminal8e::{TerminalMachine, asks_for_key, is_late, steps_before_look, waits_for_key};
 
 impl TerminalMachine for Machine {
     ghost use Rattle.pdp8e.specs.Terminal.{terminal_acts};
@@ -42,7 +42,7 @@ impl TerminalMachine for Machine {
     #[inline]
     fn make_quick_steps(&mut self, since: u64, n: u64) -> u64 {
         let most = steps_before_look(since, self.processor(), n);
-        self.run_unasked(most) as u64
+        self.run_unasked(most, is_late(since)) as u64
     }
 }
 

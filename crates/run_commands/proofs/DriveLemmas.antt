@@ -3,7 +3,7 @@ use Rattle.std.proofs.Common.{◌≡◌, ◌∙◌, ℕ, Bool, Result, Ok, Err, 
 use Rattle.std.specs.Global.{Vec}
 use Rattle.std.specs.Result.{IsErr}
 use Rattle.pdp8e.specs.Terminal.{Terminal}
-use Rattle.trace8e.specs.Papers.{PapersState}
+use Rattle.pdp8e.specs.Papers.{PapersState}
 use Rattle.trace8e.proofs.PaperLemmas.{some-none}
 use Rattle.refusals.specs.declared.faults.SessionFault.TheVariants.{Memory}
 use Rattle.outcome.specs.declared.endings.Ending.{Ending}

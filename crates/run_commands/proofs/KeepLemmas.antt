@@ -13,7 +13,7 @@ use Rattle.terminal8.specs.declared.outcomes.TerminalFault.{TerminalFault}
 use Rattle.trace8.specs.declared.faults.TraceFault.{TraceFault}
 use Rattle.trace8.specs.declared.faults.TraceFault.TheVariants as trace
 use Rattle.cpu8.specs.State.{next_cell}
-use Rattle.trace8e.specs.Papers.{PaperState, PapersState}
+use Rattle.pdp8e.specs.Papers.{PaperState, PapersState}
 use Rattle.program_reports.specs.Program.{program_line}
 use Rattle.tape_reports.specs.Starts.{first_cell, gives_word, start_cell}
 use Rattle.program_reports.specs.declared.programs.ProgramLine.TheVariants.{Start}
@@ -48,7 +48,7 @@ use Rattle.tape_commands.specs.Programs.{ReadsProgram}
 use Rattle.run_commands.specs.CorePrograms.{FindsStart, LoadsCore, LoadsProgram, StartsAt, StartsIf, TellsCell, TellsStart, program_in}
 use Rattle.run_commands.specs.Machines8i as pdp8i
 use Rattle.run_commands.specs.Machines8e as pdp8e
-use Rattle.run_commands.specs.Devices8e.{OpensDevices, OpensPaper, ReadsTape, SavesPaper, SavesPapers, has_papers, open_devices}
+use Rattle.run_commands.specs.Devices8e.{OpensDevices, OpensPaper, ReadsTape, SavesPaper, SavesPapers, TakesPapers, has_papers, open_devices}
 use Rattle.run_commands.specs.Drives8e.{IsStation, OpensStation, PrintsIf, ProfilesDrives, ProfilesSaving, TracesDrives, TracesSaving}
 use Rattle.run_commands.specs.Printing.{EndsTrace, GivesProfile, PrintsRun, PrintsTrace}
 use Rattle.run_commands.specs.Profiles.{ProfilesOn, ProfilesPlain, ProfilesTape}
@@ -162,21 +162,29 @@ module _ (form : DiskForm) (asked : DeviceForm) (program : CoreProgram) (is : ar
   without-papers = or-parts (is_some asked.punch) (is_some asked.printer) none
 
   station-keeps : KeepsFiles (OpensStation form asked program)
-  station-keeps = then-keeps (OpensDrives form) (λ drives. Then (OpensDevices asked) (λ devices. Purely (IsStation form asked drives devices program))) (drives-keep form)
-      (λ drives. then-keeps (OpensDevices asked) (λ devices. Purely (IsStation form asked drives devices program)) (devices-keep asked without-papers)
-      (λ devices. purely-keeps (IsStation form asked drives devices program)))
+  station-keeps = then-keeps (Purely (TakesPapers asked))
+      (λ papers. Then (OpensDrives form) (λ drives. Then (OpensDevices asked) (λ devices. Purely (IsStation form asked papers drives devices program)))) (purely-keeps (TakesPapers asked))
+      (λ papers. then-keeps (OpensDrives form) (λ drives. Then (OpensDevices asked) (λ devices. Purely (IsStation form asked papers drives devices program))) (drives-keep form)
+      (λ drives. then-keeps (OpensDevices asked) (λ devices. Purely (IsStation form asked papers drives devices program)) (devices-keep asked without-papers)
+      (λ devices. purely-keeps (IsStation form asked papers drives devices program))))
 
-  after-drives : (drives : OpenDrives) (old : List Event) (station : Station) (new : List Event) → AreUnplaced drives
-      → Then (OpensDevices asked) (λ devices. Purely (IsStation form asked drives devices program)) old (Ok station) new → IsFileless station
-  after-drives drives old station new unplaced (inl ends) = absurd ends
-  after-drives drives old station new unplaced (inr it) =
+  after-drives : (papers : PapersState) (drives : OpenDrives) (old : List Event) (station : Station) (new : List Event) → AreUnplaced drives
+      → Then (OpensDevices asked) (λ devices. Purely (IsStation form asked papers drives devices program)) old (Ok station) new → IsFileless station
+  after-drives papers drives old station new unplaced (inl ends) = absurd ends
+  after-drives papers drives old station new unplaced (inr it) =
       let ready = it.after.0 in
       let empty = devices-none asked without-papers it.given old it.between it.done in
       (places-none station.places drives ready.1 unplaced, ready.2 ∙ empty.0, ready.3 ∙ empty.1)
 
+  after-papers : (papers : PapersState) (old : List Event) (station : Station) (new : List Event)
+      → Then (OpensDrives form) (λ drives. Then (OpensDevices asked) (λ devices. Purely (IsStation form asked papers drives devices program))) old (Ok station) new → IsFileless station
+  after-papers papers old station new (inl ends) = absurd ends
+  after-papers papers old station new (inr it) =
+      after-drives papers it.given it.between station new (drives-unplaced form is it.given old it.between it.done) it.after
+
   station-fileless : (old : List Event) (station : Station) (new : List Event) → OpensStation form asked program old (Ok station) new → IsFileless station
   station-fileless old station new (inl ends) = absurd ends
-  station-fileless old station new (inr it) = after-drives it.given it.between station new (drives-unplaced form is it.given old it.between it.done) it.after
+  station-fileless old station new (inr it) = after-papers it.given it.between station new it.after
 
 -- what the crates below know of their steps is handed in
 module _

@@ -1,8 +1,8 @@
 -- The tape in the reader of an 8/E, its clock, and the files that get what is punched and printed on the line printer (this project's profile).
 use Rattle.std.specs.Prelude.{◌≡◌, ◌⊎◌, ◌<◌, ℕ, Bool, true, false, ◌||◌, if◌then◌else◌, is_some, Option, None, Some, Result, Ok, Err, String, List, [], ◌∷◌}
 use Rattle.std.specs.Global.{Global, Vec}
+use Rattle.pdp8e.specs.Papers.{PaperState, PapersState, new_papers}
 use Rattle.pdp8e.specs.State.{Pdp8e, with_tape, with_paper, with_clock}
-use Rattle.trace8e.specs.Papers.{PaperState, PapersState, new_paper}
 use Rattle.hosts.specs.Event.{Event, there_call}
 use Rattle.hosts.specs.Faults.{fault_number}
 use Rattle.hosts.specs.Streams.{failures, last_fault}
@@ -27,6 +27,11 @@ abbrev pub has_papers : DeviceForm → Bool
 has_papers form = is_some form.punch || is_some form.printer
 
 -- ## Before the run
+
+-- empty papers, which keep what is put on them where a file gets it, unless memory is wanted for that
+abbrev pub TakesPapers : DeviceForm → Result PapersState Ending → Type 0
+TakesPapers form (Ok papers) = papers ≡ new_papers (is_some form.punch) (is_some form.printer)
+TakesPapers form (Err ending) = ending ≡ Fault Memory
 
 -- the frames of the tape in the reader, if there is one
 abbrev pub ReadsTape : Option (String Global) → List Event → Result (Option (Vec ℕ)) Ending → List Event → Type 0
@@ -107,10 +112,6 @@ abbrev pub with_devices : Pdp8e → DeviceForm → OpenDevices → Pdp8e
 with_devices m form devices = with_clock_if form.clock (with_paper_if (is_some form.printer) (with_tape_if devices.tape m))
 
 -- ## After the run
-
--- empty papers, which keep what is put on them where a file gets it
-abbrev pub new_papers : Option PaperPlace → Option PaperPlace → PapersState
-new_papers punch printer = record { punch = new_paper (is_some punch); printer = new_paper (is_some printer) }
 
 -- how a command ends by a paper that is whole, or not
 abbrev pub paper_end : Bool → Result (Unit {0}) Ending

@@ -4,11 +4,12 @@ use Rattle.std.specs.Prelude.{◌≡◌, ℕ, Bool, true, is_some, IfErr, Option
 use Rattle.std.specs.Global.{Vec}
 use Rattle.tape_source.specs.Tags.{is_flagged}
 use Rattle.cpu8.specs.State.{next_cell}
+use Rattle.pdp8e.specs.Papers.{PapersState}
 use Rattle.pdp8e.specs.State.{Pdp8e, after_start, new_machine, switches_set}
 use Rattle.pdp8e.specs.Terminal.{Terminal, IsRun, later, terminal_with_keys}
 use Rattle.terminal8.specs.declared.outcomes.Ended.{Ended}
 use Rattle.trace8e.specs.Tracing.{Traces}
-use Rattle.trace8e.specs.Papers.{PapersState, GetSome, GetTraced}
+use Rattle.trace8e.specs.Papers.{GetSome, GetTraced}
 use Rattle.trace8e.specs.Counts.{AreCounts}
 use Rattle.trace8.specs.declared.faults.TraceFault.{TraceFault}
 use Rattle.trace8.specs.declared.faults.TraceFault.TheVariants as trace
@@ -28,7 +29,7 @@ use Rattle.drive_files.specs.Opening.{OpensDrives}
 use Rattle.drive_files.specs.Saving.{SavesDrives, earlier}
 use Rattle.drive_files.specs.declared.mounting.Places.{Places}
 use Rattle.drive_files.specs.declared.opening.OpenDrives.{OpenDrives}
-use Rattle.run_commands.specs.Devices8e.{OpensDevices, SavesPapers, new_papers, with_devices}
+use Rattle.run_commands.specs.Devices8e.{OpensDevices, SavesPapers, TakesPapers, with_devices}
 use Rattle.drive_files.specs.Inputs.{with_switches}
 use Rattle.run_commands.specs.Printing.{EndsTrace, IsProfiled}
 use Rattle.run_commands.specs.declared.core_programs.CoreProgram.{CoreProgram}
@@ -42,17 +43,18 @@ use Rattle.run_commands.specs.declared.runs.Run.{Run}
 abbrev pub machine_of : DiskForm → OpenDrives → CoreProgram → Pdp8e
 machine_of form drives program = after_start (with_switches switches_set program.switches (new_machine program.core (disk_of form drives))) program.start
 
--- it, with these devices, and where the files are held
-abbrev pub IsStation : DiskForm → DeviceForm → OpenDrives → OpenDevices → CoreProgram → Result Station Ending → Type 0
-IsStation form asked drives devices program (Ok station) =
+-- it, with these devices and papers, and where the files are held
+abbrev pub IsStation : DiskForm → DeviceForm → PapersState → OpenDrives → OpenDevices → CoreProgram → Result Station Ending → Type 0
+IsStation form asked papers drives devices program (Ok station) =
     (station.machine ≡ with_devices (machine_of form drives program) asked devices) × (station.places ≡ places_of drives)
-    × (station.punch ≡ devices.punch) × (station.printer ≡ devices.printer)
-IsStation form asked drives devices program (Err ending) = ⊥
+    × (station.punch ≡ devices.punch) × (station.printer ≡ devices.printer) × (station.papers ≡ papers)
+IsStation form asked papers drives devices program (Err ending) = ⊥
 
--- the disks of the drives are opened, and then the files of the devices
+-- papers are taken, then the disks of the drives are opened, and then the files of the devices
 abbrev pub OpensStation : DiskForm → DeviceForm → CoreProgram → List Event → Result Station Ending → List Event → Type 0
 OpensStation form asked program =
-    Then (OpensDrives form) (λ drives. Then (OpensDevices asked) (λ devices. Purely (IsStation form asked drives devices program)))
+    Then (Purely (TakesPapers asked)) (λ papers. Then (OpensDrives form) (λ drives. Then (OpensDevices asked) (λ devices.
+    Purely (IsStation form asked papers drives devices program))))
 
 -- the machine at a terminal where these keys are struck
 abbrev pub terminal_of : Station → List ℕ → Terminal
@@ -69,7 +71,7 @@ pub record TracesSaving (most : ℕ) (station : Station) (keys : List ℕ) (flag
   pub between : List Event
   pub traces : Traces (is_flagged flags) most (terminal_of station keys) after (Some (output_text old)) (Some (output_text between)) done
   pub papers : PapersState
-  pub gets : GetTraced (terminal_of station keys) after (new_papers station.punch station.printer) papers done
+  pub gets : GetTraced (terminal_of station keys) after station.papers papers done
   pub fault : Option PrintFault
   pub prints : HasPrinted old between fault
   pub cause : IfErr done (λ it. it ≡ trace.Writer → is_some fault ≡ true)
@@ -111,7 +113,7 @@ pub record ProfilesSaving (most : ℕ) (station : Station) (keys : List ℕ) (fl
   pub after : Terminal
   pub text : Result (Vec ℕ) Ending
   pub papers : PapersState
-  pub counts : CountsSteps most (terminal_of station keys) after (new_papers station.punch station.printer) papers flags text
+  pub counts : CountsSteps most (terminal_of station keys) after station.papers papers flags text
   pub saved : Result (Unit {0}) Ending
   pub kept : List Event
   pub left : Places

@@ -1,17 +1,16 @@
 //! The tape in the reader of an 8/E, its clock, and the files that get what is punched and printed on the line printer.
 ghost use Rattle.std.specs.Prelude.{◌≡◌};
 ghost use Rattle.run_commands.specs.Devices8e as spec;
-ghost use Rattle.run_commands.specs.Devices8e.{EmptiesPaper, HoldsPaper, MakesPaper, OpensDevices, OpensPaper, ReadsTape, SavesPaper, SavesPapers};
+ghost use Rattle.run_commands.specs.Devices8e.{EmptiesPaper, HoldsPaper, MakesPaper, OpensDevices, OpensPaper, ReadsTape, SavesPaper, SavesPapers, TakesPapers};
 
 use drive_files::earlier;
 use hosts::{FaultClass, Held, Host, HostFault, Unwritten, hold_file};
 use image_files::{look_file, make_file, tell_fault, write_file};
 use outcome::{Content, Ending};
-use pdp8e::Machine;
+use pdp8e::{Machine, Paper, Papers};
 use program_tasks::DeviceForm;
 use refusals::SessionFault;
 use std::alloc::Global;
-use trace8e::{Paper, Papers};
 
 /// Where the file of a paper is held, which gets it at the end of the run.
 #[derive(Drop)]
@@ -157,18 +156,12 @@ pub(crate) fn put_devices(
     (punch, printer)
 }
 
-/// Empty papers for punch and line printer, which keep what is put on them where a file gets it.
-pub(crate) fn new_papers(
-    alloc: Global,
-    punch: &Option<PaperPlace>,
-    printer: &Option<PaperPlace>,
-) -> Papers
-    ensures { result ≡ spec.new_papers punch.now printer.now }
+/// Empty papers for punch and line printer, which keep what is put on them where a file gets it. Their memory is taken here.
+pub(crate) fn take_papers(alloc: Global, form: &DeviceForm) -> Result<Papers, Ending>
+    ensures { TakesPapers form.now result }
 {
-    Papers {
-        punch: Paper::new(alloc, punch.is_some()),
-        printer: Paper::new(alloc, printer.is_some()),
-    }
+    let papers = Papers::new(alloc, form.punch.is_some(), form.printer.is_some())?;
+    Ok(papers)
 }
 
 /// Has the files of punch and line printer hold what was put on paper. Where one can't be written the other is. The answer is why the first
@@ -187,7 +180,7 @@ pub(crate) fn save_papers<H: Host>(
     earlier(first, second)
 }
 
-/// Has the file of a paper hold what was put on it, if there is a file. Where memory was wanted for some of it, the file holds what was put on
+/// Has the file of a paper hold what was put on it, if there is a file. Where there was no room for some of it, the file holds what was put on
 /// it before.
 fn save_paper<H: Host>(
     host: &mut H,

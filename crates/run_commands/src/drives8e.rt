@@ -12,7 +12,7 @@ ghost use Rattle.run_commands.specs.Drives8e as spec;
 ghost use Rattle.run_commands.specs.Drives8e.{CountsSteps, OpensStation, PrintsIf, ProfilesDrives, ProfilesSaving, TracesDrives, TracesSaving, terminal_of};
 
 use crate::core_programs::CoreProgram;
-use crate::devices8e::{PaperPlace, new_papers, open_devices, put_devices, save_papers};
+use crate::devices8e::{PaperPlace, open_devices, put_devices, save_papers, take_papers};
 use crate::printing::{counts_text, end_trace};
 use crate::runs::Run;
 use drive_files::{OpenDrives, Places, disk_of, earlier, open_drives, save_drives};
@@ -20,14 +20,14 @@ use host_output::{Before, Printer};
 use hosts::{Host, PrintFault};
 use image_files::print;
 use outcome::Ending;
-use pdp8e::{Machine, Terminal};
+use pdp8e::{Machine, Papers, Terminal};
 use profile8::no_counts;
 use program_tasks::{DeviceForm, DiskForm};
 use std::alloc::Global;
 use std::marker::Brand;
 use terminal8::Ended;
 use trace8::TraceFault;
-use trace8e::{Papers, count_fetches, trace};
+use trace8e::{count_fetches, trace};
 
 /// A machine with these disks that stands where a program starts, and where the files of the disks are held.
 pub(crate) fn machine_of(
@@ -52,16 +52,18 @@ pub(crate) fn machine_of(
     (machine, places)
 }
 
-/// A machine that stands where a program starts, and where the files of its disks, its punch and its line printer are held.
+/// A machine that stands where a program starts, the papers of its punch and its line printer, and where the files of these and of its disks are
+/// held.
 #[derive(Drop)]
 pub(crate) struct Station {
     pub(crate) machine: Machine,
     pub(crate) places: Places,
     pub(crate) punch: Option<PaperPlace>,
     pub(crate) printer: Option<PaperPlace>,
+    pub(crate) papers: Papers,
 }
 
-/// Opens the disks, and then the files of the devices.
+/// Takes the memory of papers, opens the disks, and then the files of the devices.
 fn open_station<H: Host>(
     host: &mut H,
     alloc: Global,
@@ -71,6 +73,7 @@ fn open_station<H: Host>(
 ) -> Result<Station, Ending>
     ensures { OpensStation form.now asked.now program (H.history host.old) result (H.history host.new) }
 {
+    let papers = take_papers(alloc, asked)?;
     let drives = open_drives(host, alloc, form)?;
     let devices = open_devices(host, alloc, asked)?;
     let (machine, places) = machine_of(form, drives, program);
@@ -81,6 +84,7 @@ fn open_station<H: Host>(
         places,
         punch,
         printer,
+        papers,
     })
 }
 
@@ -127,8 +131,9 @@ fn trace_station<H: Host>(
         places,
         punch,
         printer,
+        papers,
     } = station;
-    let mut papers = new_papers(alloc, &punch, &printer);
+    let mut papers = papers;
     let mut terminal = Terminal::new(machine, keys);
     let (host, fault, done) = trace_onto::<H, Brand>(
         host,
@@ -212,8 +217,9 @@ fn profile_station<H: Host>(
         places,
         punch,
         printer,
+        papers,
     } = station;
-    let mut papers = new_papers(alloc, &punch, &printer);
+    let mut papers = papers;
     let mut terminal = Terminal::new(machine, keys);
     let text = count_steps(alloc, &mut terminal, flags, most, &mut papers);
     let mut machine = terminal.into_machine();

@@ -1,13 +1,12 @@
 //! When a program asks for a key, and when it does nothing but wait for one.
 
-ghost use Rattle.std.specs.Prelude.{◌≡◌, ℕ, ◌+◌, ◌<◌, ◌≤◌, ◌&&◌, nat_le, false};
+ghost use Rattle.std.specs.Prelude.{◌≡◌, ℕ, ◌+◌, ◌<◌, ◌≤◌, ◌&&◌, ◌||◌, not, nat_le, false};
 ghost use Rattle.cpu8e.specs.State.{is_requested_by_others};
 ghost use Rattle.cpu8e.specs.Step.{next_word};
-ghost use Rattle.terminal8.specs.Asks.{jumps_back};
 ghost use Rattle.terminal8e.specs.Asks.{asks_for_key, is_at_ksf, is_at_rest, is_requested_without_key, is_undisturbed, is_waiting, may_see_key, tests_keyboard, waits_for_key};
 
 use cpu8e::Machine;
-use word12::{Cell, PAGE, Word};
+use word12::Word;
 
 /// Whether the program asks for a key, so many steps after the last look. It does where no key is unread, and one of these holds. It
 /// waits in `KSF; JMP .-1`; or it looks for one, by a KSF or with the console's interrupts on, and the steps are 30,000 at least, a
@@ -15,20 +14,29 @@ use word12::{Cell, PAGE, Word};
 pub fn asks_for_key(since: u64, machine: &Machine) -> bool
     ensures { result ≡ asks_for_key since machine.now }
 {
-    !machine.keyboard_flag()
-        && (is_waiting(machine) || (since >= TENTH_OF_A_SECOND && may_see_key(machine)))
+    !machine.keyboard_flag() && (is_waiting(machine) || (is_late(since) && may_see_key(machine)))
 }
 
-/// How many steps, at most n, a program may make before it looks for a key by the console's interrupts alone. So many steps were made
-/// since the last look, and these interrupts stay as they are.
+/// Whether a look counts, so many steps after the last one: they are 30,000 at least, a tenth of a second.
+#[inline(always)]
+pub fn is_late(since: u64) -> bool
+    ensures { result ≡ nat_le 30000 since }
+{
+    since >= TENTH_OF_A_SECOND
+}
+
+/// How many steps, at most n, a program may make before looks count, where they don't count yet. Where they do, it is before it looks for
+/// a key by the console's interrupts alone. So many steps were made since the last look, and these interrupts stay as they are.
 #[inline(always)]
 pub fn steps_before_look(since: u64, machine: &Machine, n: u64) -> usize
     ensures within { result ≤ n }
-    ensures sooner { (m : ℕ) → m < result
-        → (nat_le 30000 (since + m) && (machine.now.base.interrupts_on && machine.now.console_enabled)) ≡ false }
+    ensures sooner { (m : ℕ) → m < result → (nat_le 30000 (since + m)
+        && (not (nat_le 30000 since) || (machine.now.base.interrupts_on && machine.now.console_enabled))) ≡ false }
 {
-    let most = if machine.interrupts_on() && machine.console_enabled() {
-        TENTH_OF_A_SECOND.saturating_sub(since)
+    let most = if !is_late(since) {
+        TENTH_OF_A_SECOND - since
+    } else if machine.interrupts_on() && machine.console_enabled() {
+        0
     } else {
         TENTH_OF_A_SECOND
     };
@@ -42,7 +50,7 @@ pub fn waits_for_key(machine: &Machine) -> bool
     machine.is_running()
         && !machine.keyboard_flag()
         && is_at_ksf(machine)
-        && jumps_back(machine)
+        && machine.jumps_back()
         && is_at_rest(machine)
 }
 
@@ -51,7 +59,7 @@ pub fn waits_for_key(machine: &Machine) -> bool
 fn is_waiting(machine: &Machine) -> bool
     ensures { result ≡ is_waiting machine.now }
 {
-    tests_keyboard(machine) && jumps_back(machine)
+    tests_keyboard(machine) && machine.jumps_back()
 }
 
 /// Whether the program would see a key.
@@ -100,22 +108,6 @@ fn is_undisturbed(machine: &Machine) -> bool
     machine.is_running() && !grants
 }
 
-/// Whether the word after the next instruction is a direct JMP back to it.
-fn jumps_back(machine: &Machine) -> bool
-    ensures { result ≡ jumps_back machine.now.base }
-{
-    let next = machine.pc().plus(Word::low(1));
-    let word = machine
-        .core()
-        .get(Cell::at(machine.instruction_field(), next));
-    let page = if word.get() / CURRENT_PAGE % 2 == 1 {
-        next.get() / PAGE * PAGE
-    } else {
-        0
-    };
-    word.get() / 0o400 == DIRECT_JMP && page + word.get() % PAGE == machine.pc().get()
-}
-
 /// Whether nothing changes by itself: no user mode, no character is printing, nothing waits for an instruction or a jump, and no
 /// interrupt is requested where they are on.
 fn is_at_rest(machine: &Machine) -> bool
@@ -148,9 +140,3 @@ fn is_requested_by_others(machine: &Machine) -> bool
 const TENTH_OF_A_SECOND: u64 = 30_000;
 
 const KSF: u16 = 0o6031;
-
-/// A direct JMP without its page bit and its offset, 5000 to 5377.
-const DIRECT_JMP: u16 = 0o12;
-
-/// The bit of a reference to memory that is for the current page.
-const CURRENT_PAGE: u16 = 0o200;

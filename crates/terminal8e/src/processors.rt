@@ -4,7 +4,7 @@ ghost use Rattle.std.specs.Prelude.{◌≡◌, IfErr};
 ghost use Rattle.terminal8.specs.declared.outcomes.TerminalFault.TheVariants as fault;
 ghost use Rattle.terminal8e.specs.Run.{RunsProgram};
 
-use crate::asking::{asks_for_key, steps_before_look, waits_for_key};
+use crate::asking::{asks_for_key, is_late, steps_before_look, waits_for_key};
 use crate::machines::TerminalMachine;
 use crate::runs::run_machine;
 use byte_reader::ByteReader;
@@ -45,7 +45,7 @@ impl TerminalMachine for Machine {
     #[inline]
     fn make_quick_steps(&mut self, since: u64, n: u64) -> u64 {
         let most = steps_before_look(since, self, n);
-        self.run_unasked(most) as u64
+        self.run_unasked(most, is_late(since)) as u64
     }
 }
 

@@ -1,10 +1,10 @@
 -- What the steps of a run write on paper.
-use Rattle.std.proofs.Common.{◌≡◌, ℕ, zero, suc, ◌+◌, Bool, true, false, if◌then◌else◌, List, [], ◌++◌, append-nil, append_assoc, add-one, refl, ap, sym, subst, ◌∙◌}
+use Rattle.std.proofs.Common.{◌≡◌, ℕ, zero, suc, ◌+◌, Bool, true, false, true≢false, nat_lt, if◌then◌else◌, Option, Some, None, option_to_list, List, [], ◌∷◌, ◌++◌, length, append-nil, append_assoc, add-one, refl, ap, sym, subst, ◌∙◌}
+use Rattle.pdp8e.specs.Papers.{PaperState, PapersState, with_byte, with_byte_if, papers_after}
 use Rattle.pdp8e.specs.State.{Pdp8e}
 use Rattle.pdp8e.specs.Terminal.{Terminal, later, next, after_step}
 use Rattle.trace8e.proofs.RunLemmas.{later-next, later-none}
-use Rattle.trace8e.specs.PaperSteps.{GetStep}
-use Rattle.trace8e.specs.Papers.{PaperState, PapersState, GetsBytes, GetSteps, GetSome, frame_in, character_in, frames_of, characters_of}
+use Rattle.trace8e.specs.Papers.{GetsBytes, GetSteps, GetSome, frame_in, character_in, frames_of, characters_of}
 
 frames-none : (t : Terminal) → frames_of 0 t ≡ []
 unfolding frames_of
@@ -46,6 +46,22 @@ gets-more p p' p'' a b c first second is =
           ∙ both p.kept p.bytes a b;
     })
 
+-- ## One step
+
+gets-if-room : (room : Bool) (bytes : List ℕ) (whole : Bool) (byte : ℕ) → let p : PaperState = record { kept = true; bytes = bytes; whole = whole } in
+    GetsBytes p (if room then record p { bytes = bytes ++ byte ∷ [] } else record p { whole = false }) (byte ∷ [])
+gets-if-room true bytes whole byte = record { kept = refl; sooner = λ is. is; all = λ is. refl }
+gets-if-room false bytes whole byte = record { kept = refl; sooner = λ is. absurd (true≢false (sym is)); all = λ is. absurd (true≢false (sym is)) }
+
+gets-if-kept : (kept : Bool) (bytes : List ℕ) (whole : Bool) (byte : ℕ) → let p : PaperState = record { kept = kept; bytes = bytes; whole = whole } in
+    GetsBytes p (with_byte byte p) (byte ∷ [])
+gets-if-kept true bytes whole byte = gets-if-room (nat_lt (length bytes) 16777216) bytes whole byte
+gets-if-kept false bytes whole byte = record { kept = refl; sooner = λ is. is; all = λ is. nothing false bytes }
+
+gets-byte : (byte : Option ℕ) (p : PaperState) → GetsBytes p (with_byte_if byte p) (option_to_list byte)
+gets-byte None p = gets-none p [] refl
+gets-byte (Some byte) p = gets-if-kept p.kept p.bytes p.whole byte
+
 -- ## Runs
 
 pub no-steps : (t : Terminal) (p : PapersState) → GetSteps 0 t p p
@@ -55,14 +71,18 @@ no-steps t p = record {
 }
 
 pub more-steps : (t t' t'' : Terminal) (m : Pdp8e) (p p' p'' : PapersState) (made : ℕ) → GetSteps made t p p' → t' ≡ later made t → t'' ≡ next t' → m ≡ t''.machine
-    → GetStep p' p'' m → GetSteps (made + 1) t p p''
+    → p'' ≡ papers_after m p' → GetSteps (made + 1) t p p''
 more-steps t t' t'' m p p' p'' made before at step left last =
     let after : m ≡ (after_step (later made t)).0 =
     left ∙ ap (λ (x : Terminal). x.machine) step ∙ ap (λ (x : Terminal). (after_step x).0) at in
+    let punch : GetsBytes p'.punch p''.punch (frame_in m) =
+    subst (λ (x : PapersState). GetsBytes p'.punch x.punch (frame_in m)) (sym last) (gets-byte m.devices.punch.writing p'.punch) in
+    let printer : GetsBytes p'.printer p''.printer (character_in m) =
+    subst (λ (x : PapersState). GetsBytes p'.printer x.printer (character_in m)) (sym last) (gets-byte m.devices.printer.writing p'.printer) in
     record {
-      punch = gets-more p.punch p'.punch p''.punch (frames_of made t) (frame_in m) (frames_of (made + 1) t) before.punch last.punch
+      punch = gets-more p.punch p'.punch p''.punch (frames_of made t) (frame_in m) (frames_of (made + 1) t) before.punch punch
           (frames-next made t ∙ ap (λ (x : Pdp8e). frames_of made t ++ frame_in x) (sym after));
-      printer = gets-more p.printer p'.printer p''.printer (characters_of made t) (character_in m) (characters_of (made + 1) t) before.printer last.printer
+      printer = gets-more p.printer p'.printer p''.printer (characters_of made t) (character_in m) (characters_of (made + 1) t) before.printer printer
           (characters-next made t ∙ ap (λ (x : Pdp8e). characters_of made t ++ character_in x) (sym after));
     }
 
@@ -74,7 +94,7 @@ pub some-none : (t : Terminal) (p : PapersState) → GetSome t t p p
 some-none t p = some-steps t t p p 0 (sym (later-none t)) (no-steps t p)
 
 pub some-more : (t t' t'' : Terminal) (m : Pdp8e) (p p' p'' : PapersState) (made : ℕ) → GetSteps made t p p' → t' ≡ later made t → t'' ≡ next t' → m ≡ t''.machine
-    → GetStep p' p'' m → GetSome t t'' p p''
+    → p'' ≡ papers_after m p' → GetSome t t'' p p''
 some-more t t' t'' m p p' p'' made before at step left last =
     some-steps t t'' p p'' (made + 1) (step ∙ ap (λ (x : Terminal). next x) at ∙ sym (later-next made t)) (more-steps t t' t'' m p p' p'' made before at step left last)
 

@@ -5,4 +5,3 @@ pub mod StoresSteps
 pub mod TracingSteps
 pub mod Counts
 pub mod Papers
-pub mod PaperSteps

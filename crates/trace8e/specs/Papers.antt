@@ -1,24 +1,10 @@
 -- What a run of the 8/E puts on paper: the frames that its steps punch, and the characters that they print on the line printer.
 use Rattle.std.specs.Prelude.{◌≡◌, ℕ, zero, suc, Bool, true, if◌then◌else◌, option_to_list, List, [], ◌++◌, Result, Ok, Err}
+use Rattle.pdp8e.specs.Papers.{PaperState, PapersState}
 use Rattle.pdp8e.specs.State.{Pdp8e}
 use Rattle.pdp8e.specs.Terminal.{Terminal, later, after_step}
 use Rattle.terminal8.specs.declared.outcomes.Ended.{Ended}
 use Rattle.trace8.specs.declared.faults.TraceFault.{TraceFault}
-
-pub record PaperState : Type 0 where
-  -- what is put on it is kept; else it is dropped
-  pub kept : Bool
-  pub bytes : List ℕ
-  -- no byte was lost for want of memory
-  pub whole : Bool
-
-pub record PapersState : Type 0 where
-  pub punch : PaperState
-  pub printer : PaperState
-
--- a new paper is empty
-abbrev pub new_paper : Bool → PaperState
-new_paper kept = record { kept = kept; bytes = []; whole = true }
 
 -- the frame that a step punched, and the character that it printed on the line printer, if it did
 abbrev pub frame_in : Pdp8e → List ℕ
@@ -37,7 +23,7 @@ unfoldable pub characters_of : ℕ → Terminal → List ℕ
 characters_of zero t = []
 characters_of (suc k) t = characters_of k t ++ character_in (after_step (later k t)).0
 
--- A paper got these bytes after its own, where it keeps any and none was lost.
+-- A paper got these bytes after its own, where it keeps any and has room for all.
 pub record GetsBytes (old new : PaperState) (bytes : List ℕ) : Type 0 where
   pub kept : new.kept ≡ old.kept
   pub sooner : new.whole ≡ true → old.whole ≡ true

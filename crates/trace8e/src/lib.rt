@@ -17,12 +17,10 @@ pub mod laws;
 mod lines;
 mod moves;
 mod names;
-mod papers;
 pub mod profile_laws;
 mod runs;
 mod stores;
 mod traces;
 
-pub use papers::{Paper, Papers};
 pub use runs::count_fetches;
 pub use traces::trace;

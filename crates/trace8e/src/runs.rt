@@ -8,15 +8,14 @@ ghost use Rattle.trace8e.specs.Counts.{AreCounts};
 ghost use Rattle.trace8e.specs.Papers.{GetSteps};
 
 use crate::counting::count_step;
-use crate::papers::Papers;
-use pdp8e::Terminal;
+use pdp8e::{Papers, Terminal};
 use terminal8::{Ended, TerminalEnd, stop_of};
 
 /// Makes at most n steps of a terminal, each an instruction or an interrupt, and counts for each cell how often its word was fetched
 /// (this project's profile). Counts are 0 before, one for each of the 0o100000 cells of core.
 ///
 /// It ends at a HLT, or where the machine stands stopped. It also ends where the keys have ended and the machine waits for one for
-/// ever, or after n steps. It takes no memory but for what the steps punch, and print on the line printer, which is put on paper.
+/// ever, or after n steps. What the steps punch, and print on the line printer, is put on paper. It takes no memory.
 pub fn count_fetches(
     terminal: &mut Terminal<'_>,
     n: u64,

@@ -4,10 +4,10 @@ ghost use Rattle.std.specs.Prelude.{◌≡◌, ◌+◌, ◌^◌, ◌<◌, ◌++�
 ghost use Rattle.std.specs.Io.KnownBytes.{Appends};
 ghost use Rattle.word12.specs.declared.sizes.TheConstants.{CORE};
 ghost use Rattle.tape_source.specs.Tags.{is_flagged};
+ghost use Rattle.pdp8e.specs.Papers.{papers_after};
 ghost use Rattle.pdp8e.specs.Terminal.{next, after_step};
 ghost use Rattle.trace8e.specs.Trace.{next_line};
 ghost use Rattle.trace8e.specs.Tracing.{Traces};
-ghost use Rattle.trace8e.specs.PaperSteps.{GetStep};
 ghost use Rattle.trace8e.specs.Papers.{GetTraced};
 ghost use Rattle.trace8.specs.TracingSteps.{HandsOn};
 ghost use Rattle.trace8e.specs.TracingSteps.{TracesInto};
@@ -15,11 +15,10 @@ ghost use Rattle.trace8.specs.declared.faults.TraceFault.TheVariants as fault;
 
 use crate::lines::put_line;
 use crate::moves::put_moved;
-use crate::papers::Papers;
 use crate::stores::Before;
 use cpu8::Stepped;
-use pdp8e::Terminal;
 use pdp8e::laws::step_has_parts;
+use pdp8e::{Papers, Terminal};
 use std::alloc::{AllocError, Global};
 use terminal8::{Ended, Output, TerminalEnd, stop_of};
 use trace8::TraceFault;
@@ -109,7 +108,7 @@ fn trace_step(
     ensures did { IfOk result (λ did. did ≡ (after_step terminal.old).1) }
     ensures line { OnOk result (lines.new.items ≡ lines.old.items
         ++ next_line (is_flagged tags.now) terminal.old) }
-    ensures papers { GetStep papers.old papers.new terminal.new.machine }
+    ensures papers { papers.new ≡ papers_after terminal.new.machine papers.old }
 {
     step_has_parts();
     let moved = terminal.begin_step();

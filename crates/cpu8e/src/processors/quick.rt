@@ -1,21 +1,22 @@
 //! The quick loop: steps that need no look at console and devices. Most steps of a run are such.
 //!
-//! It works on a copy of the processor, which the compiler keeps in registers of the host. For that every function here is inlined. What
-//! comes seldom is left to the plain step.
+//! It works on a copy of the processor, which the compiler keeps in registers of the host. For that every function of the loop is inlined.
+//! What comes seldom is left to one step outside it, or to the plain step.
 //!
 //! A step jumps by the five leading bits of its word, and an operate or an IOT once more by its whole word. The code at which each jump
 //! ends is compiled for those bits, and tests them no more.
 
-ghost use Rattle.std.specs.Prelude.{◌≡◌, ◌-◌, ◌<◌, ◌≤◌, ◌/◌, ◌&&◌, true, false, not, nat_eq};
+ghost use Rattle.std.specs.Prelude.{◌≡◌, ◌-◌, ◌<◌, ◌≤◌, ◌/◌, ◌&&◌, ◌||◌, true, false, not, nat_eq};
 ghost use Rattle.cpu8e.specs.State.{with_core};
 ghost use Rattle.cpu8e.specs.Step.{next_word};
 ghost use Rattle.cpu8e.specs.Runs.{after};
-ghost use Rattle.cpu8e.specs.Unasked.{AreUnasked, finds_no_key, is_quick};
-ghost use Rattle.cpu8e.specs.QuickSteps.{Does, DoesOrNot, is_quiet, is_settled};
+ghost use Rattle.cpu8e.specs.Unasked.{AreUnasked, changes_fields, is_quick, is_quick_operate, is_quick_transfer, jumps_back, may_ask};
+ghost use Rattle.cpu8e.specs.QuickSteps.{Does, DoesOrNot, Stays, is_quiet, is_settled};
 
 use super::Processor;
 use core_load::Core;
-use word12::Word;
+use cpu8::decoding::{CURRENT_PAGE, HLT, has};
+use word12::{Cell, PAGE, Word};
 
 /// Does an instruction, whose code is compiled for each word of the list by itself. Another word is done as the `else` says.
 macro_rules! each_for_itself {
@@ -81,20 +82,21 @@ impl Processor {
         core.get(self.base.next_cell()).get() / 0o1000 == 6
     }
 
-    /// Makes up to n steps, and answers how many of the n are left. It ends before a step that is not quick, and before a KSF that finds
-    /// the keyboard flag clear. The loop counts down, since the compiler makes it count up where the steps are the answer, and that
-    /// takes an instruction more each step.
+    /// Makes up to n steps, and answers how many of the n are left. It ends before a step that is not quick, and where the program waits for
+    /// a key; and where it looks for one, if looks count. The loop counts down, since the compiler makes it count up where the steps are
+    /// the answer, and that takes an instruction more each step.
     #[inline(always)]
-    pub(crate) fn make_quick_steps(&mut self, core: &mut Core, n: usize) -> usize
+    pub(crate) fn make_quick_steps(&mut self, core: &mut Core, n: usize, looks: bool) -> usize
         requires { is_quiet self.old ≡ true }
         ensures within { result ≤ n }
         ensures state { with_core self.new core.new ≡ after (n - result) (with_core self.old core.old) }
-        ensures unasked { AreUnasked (with_core self.old core.old) (n - result) }
-        ensures request { self.new.device_request ≡ self.old.device_request }
+        ensures unasked { AreUnasked looks (with_core self.old core.old) (n - result) }
+        ensures quiet { is_quiet self.new ≡ true }
+        ensures stays { Stays (with_core self.old core.old) (with_core self.new core.new) }
     {
         let mut left = n;
         while left > 0 {
-            if !self.step_quickly(core) {
+            if !self.step_quickly(core, looks) {
                 return left;
             }
             left -= 1;
@@ -102,23 +104,51 @@ impl Processor {
         0
     }
 
-    /// Does the next instruction, if it is one of this loop, and answers whether it was.
+    /// Does the next instruction outside the loop, if its word is quick and the program may ask for no key there, and answers whether it
+    /// did. Any field, or any interrupt, may wait for an instruction.
     #[inline(always)]
-    fn step_quickly(&mut self, core: &mut Core) -> bool
+    pub(crate) fn make_quick_step(&mut self, core: &mut Core, looks: bool) -> bool
         requires { is_quiet self.old ≡ true }
         ensures does { DoesOrNot (with_core self.old core.old) (next_word (with_core self.old core.old))
             result (with_core self.new core.new) }
-        ensures finds { result ≡ true → finds_no_key (with_core self.old core.old) ≡ false }
+        ensures asks { result ≡ true → may_ask looks (with_core self.old core.old) ≡ false }
+    {
+        let word = core.get(self.base.next_cell());
+        if !is_quick(word) || self.may_ask(core, word, looks) {
+            return false;
+        }
+        self.do_quickly(core, word);
+        true
+    }
+
+    /// Whether the program may ask for a key by an instruction of this word.
+    #[inline(always)]
+    fn may_ask(&self, core: &Core, word: Word, looks: bool) -> bool
+        ensures { result ≡ ((not self.now.base.teletype.keyboard_flag && nat_eq word 0o6031)
+            && (looks || jumps_back (with_core self.now core.now))) }
+    {
+        let finds_no_key = !self.base.teletype.keyboard_flag() && word.get() == 0o6031;
+        finds_no_key && (looks || self.jumps_back(core))
+    }
+
+    /// Does the next instruction, if it is one of this loop, and answers whether it was.
+    #[inline(always)]
+    fn step_quickly(&mut self, core: &mut Core, looks: bool) -> bool
+        requires { is_quiet self.old ≡ true }
+        ensures does { DoesOrNot (with_core self.old core.old) (next_word (with_core self.old core.old))
+            result (with_core self.new core.new) }
+        ensures asks { result ≡ true → may_ask looks (with_core self.old core.old) ≡ false }
     {
         let word = core.get(self.base.next_cell());
         refer_or_else! { self, core, word:
             0o00 0o01 0o02 0o03 0o04 0o05 0o06 0o07 0o10 0o11 0o12 0o13
             0o14 0o15 0o16 0o17 0o20 0o21 0o22 0o23 0o24 0o25 0o26 0o27;
-            0o30 => return self.ask_console_quickly(core, word),
+            0o30 => return self.ask_console_quickly(core, word, looks),
             0o31 => return self.ask_fields_quickly(core, word),
             0o32 | 0o33 => return false,
             0o34 | 0o35 => return self.operate_on_l_and_ac_quickly(core, word),
-            _ => return self.operate_otherwise_quickly(core, word),
+            0o36 | 0o37 => return self.operate_otherwise_quickly(core, word),
+            _ => return false,
         }
         true
     }
@@ -133,16 +163,17 @@ impl Processor {
         self.do_quickly(core, word);
     }
 
-    /// KSF that finds the keyboard flag set, or TSF. Other IOTs of the words 6000 to 6177 are left.
+    /// TSF, or KSF where the program asks for no key. Other IOTs of the words 6000 to 6177 are left.
     #[inline(always)]
-    fn ask_console_quickly(&mut self, core: &mut Core, word: Word) -> bool
+    fn ask_console_quickly(&mut self, core: &mut Core, word: Word, looks: bool) -> bool
         requires { is_quiet self.old ≡ true }
         ensures does { DoesOrNot (with_core self.old core.old) word result (with_core self.new core.new) }
-        ensures finds { result ≡ true → (not self.old.base.teletype.keyboard_flag && nat_eq word 0o6031) ≡ false }
+        ensures asks { result ≡ true → ((not self.old.base.teletype.keyboard_flag && nat_eq word 0o6031)
+            && (looks || jumps_back (with_core self.old core.old))) ≡ false }
     {
         match word.get() {
             0o6031 => {
-                if !self.base.teletype.keyboard_flag() {
+                if !self.base.teletype.keyboard_flag() && (looks || self.jumps_back(core)) {
                     return false;
                 }
                 self.do_quickly(core, Word::low(0o6031));
@@ -151,6 +182,21 @@ impl Processor {
             _ => return false,
         }
         true
+    }
+
+    /// Whether the word after the next instruction is a direct JMP back to it.
+    #[inline(always)]
+    pub(crate) fn jumps_back(&self, core: &Core) -> bool
+        ensures { result ≡ jumps_back (with_core self.now core.now) }
+    {
+        let after = self.base.pc.plus(Word::ONE);
+        let word = core.get(Cell::at(self.base.instruction_field, after));
+        let page = if has(word, CURRENT_PAGE) {
+            after.get() / PAGE * PAGE
+        } else {
+            0
+        };
+        word.get() / 0o400 == DIRECT_JMP && page + word.get() % PAGE == self.base.pc.get()
     }
 
     /// CDF, RDF or RIF. Other IOTs of the words 6200 to 6377 are left.
@@ -227,6 +273,51 @@ impl Processor {
     }
 }
 
+/// Whether a word is one of those that need no look at console and devices.
+#[inline(always)]
+fn is_quick(word: Word) -> bool
+    ensures { result ≡ is_quick word }
+{
+    let operation = word.get() / 0o1000;
+    if operation <= 5 {
+        return true;
+    }
+    if operation == 6 {
+        return is_quick_transfer(word);
+    }
+    is_quick_operate(word)
+}
+
+/// Whether it is so of an IOT: KSF, TSF, RDF, RIF, CDF and CIF are.
+#[inline(always)]
+fn is_quick_transfer(word: Word) -> bool
+    ensures { result ≡ is_quick_transfer word }
+{
+    match word.get() {
+        0o6031 | 0o6041 | 0o6214 | 0o6224 => true,
+        _ => changes_fields(word),
+    }
+}
+
+/// Whether a word is CDF, CIF or both.
+#[inline(always)]
+fn changes_fields(word: Word) -> bool
+    ensures { result ≡ changes_fields word }
+{
+    let pulses = word.get() % 8;
+    word.get() / 0o100 == 0o62 && (1 <= pulses && pulses <= 3)
+}
+
+/// Whether it is so of an operate: all are but those of group 2 with HLT.
+#[inline(always)]
+fn is_quick_operate(word: Word) -> bool
+    ensures { result ≡ is_quick_operate word }
+{
+    let is_group_1 = word.get() / 0o400 % 2 == 0;
+    let halts = word.get() % 2 == 0 && has(word, HLT);
+    is_group_1 || !halts
+}
+
 /// The word, of which the five leading bits are these.
 #[inline(always)]
 fn leading(bits: u16, word: Word) -> Word
@@ -235,3 +326,6 @@ fn leading(bits: u16, word: Word) -> Word
 {
     Word::low(0o200 * bits + word.get() % 0o200)
 }
+
+/// A direct JMP without its page bit and its offset, 5000 to 5377.
+const DIRECT_JMP: u16 = 0o12;

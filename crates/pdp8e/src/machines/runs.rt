@@ -9,18 +9,18 @@ use cpu8e::laws::request_stays;
 
 impl Machine {
     /// Makes steps, at most n, as many as the processor alone quickly makes, and answers how many. Each is an instruction that prints nothing and
-    /// goes on, and in none the program asks for a key. Each passes for what is under way, of which nothing ends and no transfer moves a word.
+    /// goes on. In none the program waits for a key nor, if looks count, looks for one. Each passes for what is under way, of which nothing ends and no transfer moves a word.
     /// Where none is made the caller takes a `step`.
-    pub fn run_unasked(&mut self, n: usize) -> usize
+    pub fn run_unasked(&mut self, n: usize, looks: bool) -> usize
         ensures within { result ≤ n }
         ensures state { self.new ≡ after result self.old }
-        ensures unasked { AreUnasked self.old result }
+        ensures unasked { AreUnasked looks self.old result }
     {
         let Some(most) = self.time_left() else {
             return 0;
         };
         request_stays();
-        let made = self.processor.run_unasked(n.min(most as usize));
+        let made = self.processor.run_unasked(n.min(most as usize), looks);
         if !self.is_quiet {
             self.disk.pass(made as u32);
             self.devices.pass(made as u64);

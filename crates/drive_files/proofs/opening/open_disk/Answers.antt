@@ -4,7 +4,7 @@ use Rattle.image_files.proofs.WorkLemmas.{ends_with}
 use Rattle.drive_files.proofs.opening.open_disk.Goals as goal
 
 pub returns-in_err-place : goal.returns-in_err-place
-returns-in_err-place g c = inl (ends_with (HoldsIf c.args.is_kept c.args.name.now) _ _ _ _ c.in_err-place.ensures c.from_residual.ensures)
+returns-in_err-place g c = inl (ends_with (HoldsIf c.args.is_kept c.args.seconds c.args.name.now) _ _ _ _ c.in_err-place.ensures c.from_residual.ensures)
 
 pub returns-in_err-bytes : goal.returns-in_err-bytes
 returns-in_err-bytes g c = inr (record { given = c.in_ok-place.place; between = g.H.Host.history c.hold_if.new.host; done = c.in_ok-place.ensures; after = inl (ends_with (LooksIn c.in_ok-place.place c.args.name.now) _ _ _ _ c.in_err-bytes.ensures c.from_residual-in_err-bytes.ensures) })

@@ -1,5 +1,5 @@
 use Rattle.std.proofs.Common.{subst}
-use Rattle.trace8e.specs.Papers.{PapersState}
+use Rattle.pdp8e.specs.Papers.{PapersState}
 use Rattle.run_commands.specs.Devices8e.{SavesPapers}
 use Rattle.run_commands.proofs.devices8e.save_papers.Goals as goal
 

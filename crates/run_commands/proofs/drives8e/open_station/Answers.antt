@@ -5,33 +5,49 @@ use Rattle.run_commands.specs.Devices8e.{OpensDevices, with_devices}
 use Rattle.run_commands.proofs.drives8e.open_station.Goals as goal
 
 pub returns-in_err-drives : goal.returns-in_err-drives
-returns-in_err-drives g c = inl (ends_with (OpensDrives c.args.form.now) _ _ _ _ c.in_err-drives.ensures c.from_residual.ensures)
+returns-in_err-drives g c = inr (record {
+  given = c.in_ok-papers.papers;
+  between = g.H.Host.history c.args.host.now;
+  done = (c.in_ok-papers.ensures, refl);
+  after = inl (ends_with (OpensDrives c.args.form.now) _ _ _ _ c.in_err-drives.ensures c.from_residual-in_err-drives.ensures);
+})
 
 pub returns-in_err-devices : goal.returns-in_err-devices
 returns-in_err-devices g c = inr (record {
-  given = c.in_ok-drives.drives;
-  between = g.H.Host.history c.open_drives.new.host;
-  done = c.in_ok-drives.ensures;
-  after = inl (ends_with (OpensDevices c.args.asked.now) _ _ _ _ c.in_err-devices.ensures c.from_residual-in_err-devices.ensures);
+  given = c.in_ok-papers.papers;
+  between = g.H.Host.history c.args.host.now;
+  done = (c.in_ok-papers.ensures, refl);
+  after = inr (record {
+    given = c.in_ok-drives.drives;
+    between = g.H.Host.history c.open_drives.new.host;
+    done = c.in_ok-drives.ensures;
+    after = inl (ends_with (OpensDevices c.args.asked.now) _ _ _ _ c.in_err-devices.ensures c.from_residual-in_err-devices.ensures);
+  });
 })
 
 pub returns : goal.returns
 returns g c = inr (record {
-  given = c.in_ok-drives.drives;
-  between = g.H.Host.history c.open_drives.new.host;
-  done = c.in_ok-drives.ensures;
+  given = c.in_ok-papers.papers;
+  between = g.H.Host.history c.args.host.now;
+  done = (c.in_ok-papers.ensures, refl);
   after = inr (record {
-    given = c.in_ok-devices.devices;
-    between = g.H.Host.history c.open_devices.new.host;
-    done = c.in_ok-devices.ensures;
-    after = (
-      (
-        c.put_devices-punch.ensures.machine ∙ ap (λ m. with_devices m c.args.asked.now c.in_ok-devices.devices) c.machine_of-machine.ensures.machine,
-        c.machine_of-machine.ensures.places,
-        c.put_devices-punch.ensures.punch,
-        c.put_devices-punch.ensures.printer,
-      ),
-      refl,
-    );
+    given = c.in_ok-drives.drives;
+    between = g.H.Host.history c.open_drives.new.host;
+    done = c.in_ok-drives.ensures;
+    after = inr (record {
+      given = c.in_ok-devices.devices;
+      between = g.H.Host.history c.open_devices.new.host;
+      done = c.in_ok-devices.ensures;
+      after = (
+        (
+          c.put_devices-punch.ensures.machine ∙ ap (λ m. with_devices m c.args.asked.now c.in_ok-devices.devices) c.machine_of-machine.ensures.machine,
+          c.machine_of-machine.ensures.places,
+          c.put_devices-punch.ensures.punch,
+          c.put_devices-punch.ensures.printer,
+          refl,
+        ),
+        refl,
+      );
+    });
   });
 })

@@ -1,8 +1,8 @@
-use Rattle.std.proofs.Common.{◌≡◌, ◌-◌, arith, refl, sym, subst, ◌∙◌}
+use Rattle.std.proofs.Common.{◌≡◌, ◌-◌, arith, refl, sym, subst}
 use Rattle.cpu8e.specs.State.{with_core}
 use Rattle.cpu8e.specs.Runs.{after}
 use Rattle.cpu8e.specs.Unasked.{AreUnasked}
-use Rattle.cpu8e.proofs.QuickLemmas.{after-none, after-quick, none-made, none-unasked, one-more, stays-quiet, unasked-next}
+use Rattle.cpu8e.proofs.QuickLemmas.{after-none, after-quick, none-made, none-unasked, one-more, stays-on, stays-quiet, stays-same, unasked-next}
 use Rattle.cpu8e.proofs.processors.Processor.make_quick_steps.Goals as goal
 
 pub loop-left-init : goal.loop-left-init
@@ -11,11 +11,9 @@ loop-left-init c =
     let none = none-made c.args.n in
     record {
       state = subst (λ k. s ≡ after k s) none (sym (after-none s));
-      unasked = subst (λ k. AreUnasked s k) none (none-unasked s);
+      unasked = subst (λ k. AreUnasked c.args.looks s k) none (none-unasked c.args.looks s);
       quiet = c.requires;
-      interrupts = refl;
-      console = refl;
-      request = refl;
+      stays = stays-same s;
       within = omega arith;
     }
 
@@ -30,11 +28,9 @@ loop-left-preserved c =
     let more = one-more c.args.n c.loop-left.left c.loop-left-test.true i.within in
     record {
       state = subst (λ k. new ≡ after k s) more (after-quick made s old new i.state i.quiet did);
-      unasked = subst (λ k. AreUnasked s k) more
-          (unasked-next made s old new i.state i.quiet (c.if-not-step_quickly.ensures.finds refl) i.interrupts i.console did i.unasked);
+      unasked = subst (λ k. AreUnasked c.args.looks s k) more
+          (unasked-next c.args.looks made s old new i.state i.quiet (c.if-not-step_quickly.ensures.asks refl) i.stays did i.unasked);
       quiet = stays-quiet old new i.quiet did.stays;
-      interrupts = did.stays.interrupts_on ∙ i.interrupts;
-      console = did.stays.console_enabled ∙ i.console;
-      request = did.stays.device_request ∙ i.request;
+      stays = stays-on s old new i.stays did.stays;
       within = omega (arith, i.within);
     }

@@ -8,32 +8,32 @@ pub returns-in_default-clause-state : goal.returns-in_default-clause-state
 returns-in_default-clause-state c = after_none c.args.self.now
 
 pub returns-in_default-clause-unasked : goal.returns-in_default-clause-unasked
-returns-in_default-clause-unasked c = none_unasked c.args.self.now
+returns-in_default-clause-unasked c = none_unasked c.args.looks c.args.self.now
 
 pub returns-then-not-self-clause-unasked : goal.returns-then-not-self-clause-unasked
 returns-then-not-self-clause-unasked c =
     let ran = c.run_unasked-made in
-    unasked_steps c.request_stays.ensures c.args.self.now (subst (λ (m : Pdp8e). IsJoined m) c.self.view_is c.self.invariant.0) ran.result c.in-Some.most
+    unasked_steps c.request_stays.ensures c.args.looks c.args.self.now (subst (λ (m : Pdp8e). IsJoined m) c.self.view_is c.self.invariant.0) ran.result c.in-Some.most
     (omega (arith, ran.ensures.within, c.min.ensures)) (c.in-Some.ensures c.in-Some.most refl)
-    (subst (λ (m : Pdp8e). Cpu.AreUnasked m.processor ran.result) c.self.view_is ran.ensures.unasked)
+    (subst (λ (m : Pdp8e). Cpu.AreUnasked c.args.looks m.processor ran.result) c.self.view_is ran.ensures.unasked)
 
 pub returns-then-not-self-clause-state : goal.returns-then-not-self-clause-state
 returns-then-not-self-clause-state c =
     let i = c.self.inside in
     let ran = c.run_unasked-made in
-    state_passed (record { processor = i.processor; disk = i.disk; devices = i.devices }) c.args.self.now c.self.view_is ran.new.self c.pass.new.self
+    state_passed c.args.looks (record { processor = i.processor; disk = i.disk; devices = i.devices }) c.args.self.now c.self.view_is ran.new.self c.pass.new.self
     c.pass-then-not-self.new.self ran.result (returns-then-not-self-clause-unasked c) ran.ensures.state c.pass.ensures c.pass-then-not-self.ensures
 
 pub returns-else-not-self-clause-unasked : goal.returns-else-not-self-clause-unasked
 returns-else-not-self-clause-unasked c =
     let ran = c.run_unasked-made in
-    unasked_steps c.request_stays.ensures c.args.self.now (subst (λ (m : Pdp8e). IsJoined m) c.self.view_is c.self.invariant.0) ran.result c.in-Some.most
+    unasked_steps c.request_stays.ensures c.args.looks c.args.self.now (subst (λ (m : Pdp8e). IsJoined m) c.self.view_is c.self.invariant.0) ran.result c.in-Some.most
     (omega (arith, ran.ensures.within, c.min.ensures)) (c.in-Some.ensures c.in-Some.most refl)
-    (subst (λ (m : Pdp8e). Cpu.AreUnasked m.processor ran.result) c.self.view_is ran.ensures.unasked)
+    (subst (λ (m : Pdp8e). Cpu.AreUnasked c.args.looks m.processor ran.result) c.self.view_is ran.ensures.unasked)
 
 pub returns-else-not-self-clause-state : goal.returns-else-not-self-clause-state
 returns-else-not-self-clause-state c =
     let i = c.self.inside in
     let ran = c.run_unasked-made in
-    state_quiet (record { processor = i.processor; disk = i.disk; devices = i.devices }) c.args.self.now c.self.view_is ran.new.self ran.result
+    state_quiet c.args.looks (record { processor = i.processor; disk = i.disk; devices = i.devices }) c.args.self.now c.self.view_is ran.new.self ran.result
     (returns-else-not-self-clause-unasked c) (sym c.self.invariant.1 ∙ c.if-not-self.false) ran.ensures.state
