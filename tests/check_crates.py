@@ -26,7 +26,6 @@ COLUMN = 15
 ALONE = {
     "instructions8": "laws over the assembler, the processor and the disassembler, which none of these can have",
     "keeper_laws": "laws over the commands of several verbs",
-    "program_laws": "laws over all tasks of the program",
     "monitor8": "the public calls of the program",
     "salvage_commands": "the room of rescue and scan",
 }

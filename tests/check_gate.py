@@ -38,6 +38,8 @@ NOT_QUICK = {
     "tests/check_release.py": "it packs the proved program",
     "tests/model/compare_pal8_statements.py": "its program is built by rt ci",
     "tests/model/compare_pal8_sources.py": "its program is built by rt ci",
+    "tests/model/check_pointers.py": "its program is built by rt ci",
+    "tests/model/check_history.py": "its program is built by rt ci",
 }
 # What `./check` leaves out, and why.
 QUICK_ALONE: dict[str, str] = {}

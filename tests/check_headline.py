@@ -5,7 +5,8 @@ those of `run_words` do, which is the whole program.
 
 It fails where that page lacks one of them, and where a type doesn't stand where it is imported from. It fails too where docs/PROVED.md names a file,
 a law or a wrong body that isn't there, and where a sentence of its numbered list names neither a law nor, after the mark that it has none, a definition.
-It fails where the page answers not just ten questions of a keeper, or where the laws of an answer stand elsewhere than its row says, and where a law
+It fails where a number that definitions of the program cite by name has no law with a numeral, in numbers.rt of program_laws. It fails where the
+page answers fewer questions of a keeper than it did, or more, or where the laws of an answer stand elsewhere than its row says, and where a law
 speaks of a contract that the program doesn't reach. The last line is 'N passed, M failed'.
 """
 import os
@@ -20,12 +21,28 @@ from tests.contracts import cited, clauses
 from build.crates import Crates
 from tests.definitions import Found, closure, types, types_in
 from tests.rattle_sources import definition_files, definitions, files_of, source
-from tests.reached import idle_laws
+from tests.reached import LIBRARIES, idle_laws
 
 PAGE = f"{TOP}/docs/PROVED.md"
 LIST = f"{TOP}/target/headline.md"
+NUMBERS = f"{TOP}/crates/program_laws/src/numbers.rt"
+# The numbers that only their own crate can name: `inner_numbers` says what the definitions that cite them come to.
+INNER = {
+    ("image_kind", "BLOCK_BYTES"),
+    ("image_kind", "BLOCK_WORDS"),
+    ("image_kind", "DISK_BLOCKS"),
+    ("image_kind", "LARGEST"),
+    ("image_kind", "TAPE_BLOCKS"),
+    ("image_kind", "TAPE_BLOCK_BYTES"),
+    ("pal8_places", "LAST_STAY"),
+    ("pal8_tape", "MOST_HARMLESS"),
+    ("shown_text", "BLANK"),
+}
+# The tables of words, of letters and of pairs, which have laws of their own beside them.
+TABLES = {"COMMANDS", "PAIRS"}, {"rows"}
+CONSTANTS = re.compile(r"Rattle\.(\w+)\.specs\.declared\.(?:\w+\.)*(\w+)\.TheConstants\.\{([^}]*)\}")
 # How many questions of a keeper the page answers.
-QUESTIONS = 10
+QUESTIONS = 11
 HEADING = "# Every definition of the headline\n"
 FIRST = """
 All that the contracts of `Session` and of its laws unfold to: {definitions} definitions in {files} files, the session first. With them
@@ -107,9 +124,9 @@ def missing(page: str) -> Iterator[str]:
 
 
 def laws() -> set[str]:
-    """The laws of the tree: the public functions of its files of laws."""
+    """The laws of the tree: the public functions of its files of laws, but for those of libraries that no command calls."""
     found = set()
-    for path in (it for crate in Crates().names for it in files_of(crate)):
+    for path in (it for crate in Crates().names if crate not in LIBRARIES for it in files_of(crate)):
         if os.path.basename(path) == "laws.rt" or os.path.basename(os.path.dirname(os.path.dirname(path))).endswith("_laws"):
             with open(path, encoding="utf-8") as text:
                 found.update(re.findall(r"(?m)^pub fn (\w+)", text.read()))
@@ -135,8 +152,32 @@ def unlawful(page: str) -> Iterator[str]:
                     yield f"the {'definition' if end[1] else 'law'} {name} is not there"
 
 
+def constants(text: str) -> Iterator[tuple[str, str, str]]:
+    """The numbers that a text imports: the crate, the name, and the name by which it goes here."""
+    for crate, module, names in CONSTANTS.findall(text):
+        for name, _, other in (it.strip().partition(" as ") for it in names.split(",")):
+            if name not in TABLES[0] and module not in TABLES[1]:
+                yield crate, name, other or name
+
+
+def unnumbered() -> Iterator[str]:
+    """The numbers that definitions of the program cite by name, and that no law has as a numeral."""
+    with open(NUMBERS, encoding="utf-8") as text:
+        law = text.read()
+    known = {(crate, name) for crate, name, here in constants(law) if re.search(rf"\b{here} ≡ \d", law)} | INNER
+    program, cited_by_name = Crates().below("pdp8"), set[tuple[str, str]]()
+    for crate, file in definition_files():
+        if crate in program:
+            with open(f"{TOP}/crates/{crate}/specs/{file}.antt", encoding="utf-8") as text:
+                cited_by_name |= {(owner, name) for owner, name, _ in constants(text.read())}
+    for crate, name in sorted(cited_by_name - known):
+        yield f"the number {name} of {crate}, which definitions cite by name, has no law with a numeral"
+    for crate, name in sorted(INNER - cited_by_name):
+        yield f"no definition cites {name} of {crate}"
+
+
 def unanswered(page: str) -> Iterator[str]:
-    """Whether the page has not just ten questions of a keeper, and the laws of the answers that do not stand where their rows say."""
+    """Whether the page has more or fewer questions of a keeper than it did, and the laws of the answers that do not stand where their rows say."""
     rows = re.findall(r"(?m)^\| ([^|]+\?) \| [^|]+ \| ([^|]+) \| `([^`|]+)` \|$", page.partition("\n## A keeper's questions\n")[2].partition("\n## ")[0])
     if len(rows) != QUESTIONS:
         yield f"the page answers {len(rows)} questions of a keeper, not {QUESTIONS}"
@@ -165,7 +206,7 @@ def main() -> int:
         written.write(told)
     with open(PAGE, encoding="utf-8") as text:
         page = text.read()
-    faults = [*missing(page), *unlawful(page), *unanswered(page), *idle_laws(), *undeclared(named), *unlisted(told, found, named)]
+    faults = [*missing(page), *unlawful(page), *unanswered(page), *idle_laws(), *unnumbered(), *undeclared(named), *unlisted(told, found, named)]
     for fault in faults:
         print(f"check_headline: {fault}")
     print(f"{int(not faults)} passed, {int(bool(faults))} failed")

@@ -1,4 +1,5 @@
 """What definitions unfold to, and the Rust types that they name."""
+import functools
 import os
 import re
 from typing import Iterable
@@ -40,24 +41,30 @@ def owner_of(known: Definitions, name: str) -> str:
     return owner[0]
 
 
+@functools.cache
+def unfolds_to(crate: str, file: str, name: str) -> frozenset[tuple[str, str, str]]:
+    """The definitions that the text of one names, or where the name stands that a file imports or that is a part of a record."""
+    known = definitions(crate, file)
+    if name not in known.texts:
+        return frozenset({known.uses[name] if name in known.uses else (crate, file, owner_of(known, name))})
+    found = Found()
+    for word in set(WORD.findall(known.texts[name])):
+        if word in known.texts and word != name:
+            found.add((crate, file, word))
+        elif word in known.uses:
+            found.add(known.uses[word])
+    for module, member in re.findall(r"\b(\w+)\.(\w+)", known.texts[name]):
+        if module in known.modules:
+            found.add((*known.modules[module], member))
+    return frozenset(found)
+
+
 def closure(roots: Iterable[tuple[str, str, str]]) -> Found:
     """Each definition that some definitions unfold to, and these, as crate, file and name."""
     seen, waiting = Found(), list(roots)
     while waiting:
-        it = crate, file, name = waiting.pop()
-        if it in seen:
-            continue
-        seen.add(it)
-        known = definitions(crate, file)
-        if name not in known.texts:
-            waiting.append(known.uses[name] if name in known.uses else (crate, file, owner_of(known, name)))
-            continue
-        for word in set(WORD.findall(known.texts[name])):
-            if word in known.texts and word != name:
-                waiting.append((crate, file, word))
-            elif word in known.uses:
-                waiting.append(known.uses[word])
-        for module, member in re.findall(r"\b(\w+)\.(\w+)", known.texts[name]):
-            if module in known.modules:
-                waiting.append((*known.modules[module], member))
+        it = waiting.pop()
+        if it not in seen:
+            seen.add(it)
+            waiting.extend(unfolds_to(*it))
     return {it for it in seen if it[2] in definitions(it[0], it[1]).texts}

@@ -36,8 +36,10 @@ KEPT = f"{TOP}/target/gate.json"
 PROVED = [(f"crates/pdp8/out/pdp8{by}", f"crates/short_memory/out/short_memory{by}") for by in ("", ".by-rattle")]
 PAL8_STATEMENTS = ("tests/model/compare_pal8_statements.py", "--program", "crates/pal8_bench/out/pal8_bench")
 PAL8_SOURCES = ("tests/model/compare_pal8_sources.py", "--program", "crates/pal8_asm_bench/out/pal8_asm_bench")
+POINTERS = ("tests/model/check_pointers.py", "--program", "crates/flow_trial/out/flow_trial")
 SIMH = ("tests/model/compare_simh.py",)
 HOSTS = ("tests/hosts/check_saves.py", "--program", "crates/host_trial/out/host_trial")
+HISTORY = ("tests/model/check_history.py", "--program", "crates/history_trial/out/history_trial")
 UNPROVED = ("target/unproved/pdp8/pdp8", "target/unproved/short_memory/short_memory")
 LIARS = ("tests/check_liars.py",)
 RT_CI = ("rt", "ci")
@@ -79,7 +81,7 @@ def parts(is_quick: bool) -> list[list[Words]]:
     if is_quick:
         runs = [(*it, *FEW.get(it[0], ())) for it in runs_of(*UNPROVED)]
         return [[("tests/build_with_checks.sh",), (*DEFECTS, "--quick"), *TEXTS], [(*LIARS, "--quick"), ("tests/page/check_page.sh", "--quick"), ("tests/check_builds.py",), ("tests/hosts/check_saves.py",), (*SIMH, "--runs", "100"), *runs]]
-    rest = [("tests/page/check_page.sh",), ("tests/try_edits.py", "--gate"), ("tests/check_install.py",), ("tests/check_release.py",), PAL8_STATEMENTS, PAL8_SOURCES, SIMH, HOSTS, LIARS]
+    rest = [("tests/page/check_page.sh",), ("tests/try_edits.py", "--gate"), ("tests/check_install.py",), ("tests/check_release.py",), PAL8_STATEMENTS, PAL8_SOURCES, POINTERS, SIMH, HOSTS, HISTORY, LIARS]
     for program, short in PROVED:
         rest += runs_of(program, short)
     return [[DEFECTS, *TEXTS], [RT_CI, ("tests/build_with_checks.sh",), ("tests/check_builds.py",)], [*rest, ("tests/run_sessions.py", "--unproved")]]

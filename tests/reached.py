@@ -1,4 +1,6 @@
-"""Which functions the program reaches, and the laws that speak of contracts of others: such a law says nothing of what the program does."""
+"""Which functions the program reaches, and the laws that speak of contracts of others: such a law says nothing of what the program does. These are
+looked for in all crates but those of tests, of benchmarks and of libraries that no command calls yet.
+"""
 import os
 import re
 from typing import Iterable, Iterator
@@ -14,6 +16,11 @@ STEPS = {
     ("image_kind", "whole_files"): "a law of the library: who calls `parts_of` gets all bytes of a file",
     ("script_commands", "unchanged_files"): "a step of `quiet_tasks`, which has it of a run whose image is opened first, and tried again while it is busy",
 }
+# Crates that no command calls yet, so that their laws say nothing of what the program does.
+LIBRARIES = {
+    "history8": "no command goes back in a machine's history yet",
+    "pointer_flow": "no command follows pointers yet",
+}
 
 
 def is_law(path: str) -> bool:
@@ -22,13 +29,14 @@ def is_law(path: str) -> bool:
 
 
 class Program:
-    """The functions of the crates on which the program stands, and those that it reaches."""
+    """The functions of all crates, and those that the program reaches."""
 
     def __init__(self, top: str = "pdp8") -> None:
         self.crates = Crates()
         self.below: dict[str, set[str]] = {}
         self.program = self.stands_on(top)
-        self.functions = [(crate, it, source(path)) for crate in self.program for path in files_of(crate) for it in source(path).functions]
+        all_crates = [it for it in self.crates.names if not APART.search(it)]
+        self.functions = [(crate, it, source(path)) for crate in all_crates for path in files_of(crate) for it in source(path).functions]
         self.named: dict[str, list[int]] = {}
         for number, (_, function, _) in enumerate(self.functions):
             self.named.setdefault(function.name, []).append(number)
@@ -44,7 +52,7 @@ class Program:
         """What the program has of its own, and what a trait asks for, is called from anywhere."""
         crate, function, file = place
         block = file.block_at(function.start)
-        return crate == top or bool(block and (block.trait or block.is_trait))
+        return crate == top or crate in self.program and bool(block and (block.trait or block.is_trait))
 
     def words(self, place: Place) -> set[str]:
         """The words of a function, but for those of its clauses."""
@@ -77,20 +85,23 @@ class Program:
     def unreached(self) -> Found:
         """The definitions that contracts of public functions unfold to which the program doesn't reach, and no contract of what it reaches."""
         plain = [(number, it) for number, it in enumerate(self.functions) if not is_law(it[2].path)]
-        lost = closure(self.cited(it for number, it in plain if number not in self.reached and it[1].is_public and not APART.search(it[0])))
+        lost = closure(self.cited(it for number, it in plain if number not in self.reached and it[1].is_public))
         return lost - closure(self.cited(it for number, it in plain if number in self.reached)) if lost else lost
 
 
 def idle_laws() -> Iterator[str]:
-    """The laws over contracts that the program doesn't reach, but for `STEPS`; and what of these isn't so."""
+    """The laws that unfold to contracts which the program doesn't reach, but for `STEPS` and `LIBRARIES`; and what of these isn't so."""
     program = Program()
     lost, found = program.unreached(), dict[tuple[str, str], str]()
     for place in program.functions:
         crate, function, file = place
         if is_law(file.path) and function.is_public:
-            for _, _, name in sorted(program.cited([place]) & lost):
+            for _, _, name in sorted(closure(program.cited([place])) & lost):
                 found[crate, function.name] = name
     for law in sorted(found.keys() - STEPS.keys()):
-        yield f"the law {law[1]} of {law[0]} speaks of {found[law]}, which no call of the program promises"
+        if law[0] not in LIBRARIES:
+            yield f"the law {law[1]} of {law[0]} speaks of {found[law]}, which no call of the program promises"
     for law in sorted(STEPS.keys() - found.keys()):
         yield f"tests/reached.py lists {law[1]} of {law[0]}, which speaks of what the program does"
+    for crate in sorted(LIBRARIES.keys() & program.program):
+        yield f"tests/reached.py lists {crate} as a library, and the program stands on it"

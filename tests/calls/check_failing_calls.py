@@ -459,6 +459,19 @@ def a_disk_that_is_not_saved_has_its_reason_in_a_note(room: Room) -> None:
 
 
 @case
+def a_disk_of_another_drive_that_is_not_saved_has_its_drive_in_the_line(room: Room) -> None:
+    for name, words in {"D": COUNTED.replace("4100", "4102"), "E": "0"}.items():
+        with open(f"{room.folder}/{name}", "wb") as disk:
+            disk.write((bytes(50) + b"".join(int(word, 8).to_bytes(2, "little") for word in words.split())).ljust(512, b"\0"))
+    line = AS_IT_WAS.replace("\n? HOST WRITE", "\n? HOST WRITE RK1")
+    for call in ("fsync", "rename"):
+        status, said = room.pdp8("boot", "D", "--rk1", "E", call=call, error=errno.ENOSPC, given="AH")
+        holds((call, status, said.replace("AH", "", 1)), (call, 1, f"note: E: no space left\n{HALTED}{line}"))
+    holds(room.pdp8("boot", "D", "--rk1", "E", call="open E", error=errno.EROFS, given="AH"), (1, noted("E", "read-only file system", line)))
+    holds(room.sh("stat -c %s E"), "512\n")
+
+
+@case
 def a_name_that_can_not_be_given_has_its_reason_in_a_note(room: Room) -> None:
     for error, why in REASONS.items():
         if error in (errno.EPERM, errno.EACCES, errno.EMLINK):

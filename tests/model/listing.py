@@ -88,19 +88,35 @@ class Listing:
         kinds = [("SUBROUTINE, CALLED FROM", self.callers.get(cell)), ("FROM", self.others.get(cell))]
         return [f"/ {said} {' '.join(octal(it, 5) for it in cells[:8])}{' ..' if len(cells) > 8 else ''}" for said, cells in kinds if cells]
 
+    def has_gap(self, cell: int) -> bool:
+        """Whether the program doesn't go on after a cell: a JMP through a pointer, or HLT."""
+        word = self.words[cell]
+        return cell in self.code and (word >> 8 == 0o13 or (word >> 8 == 0o17 and not word & 1 and bool(word & 2)))
+
+    def row(self, cell: int) -> range:
+        """The cells whose words stand in one line with the word of a cell."""
+        return range(cell, cell + 1)
+
+    def line(self, row: range) -> str:
+        cell = row[0]
+        place = f"{octal(cell, 5)} {octal(self.words[cell], 4)}" if len(row) == 1 else f"{octal(cell, 5)} TO {octal(row[-1], 5)}"
+        return f"{self.statement(cell)}\t/{place}{self.remark(cell) if self.is_noted else ''}"
+
     def lines(self) -> list[str]:
         found, before = [], None
         for cell in sorted(self.words):
+            if before is not None and cell <= before:
+                continue
             if cell // FIELD != (before or 0) // FIELD:
                 found.append(f"FIELD {cell // FIELD}")
             if before is None or cell != before + 1 or cell % FIELD == 0:
                 found.append(f"*{octal(cell % FIELD, 4)}")
             found += self.above(cell) if self.is_noted else []
-            tag, word = self.tag(cell), self.words[cell]
-            found.append(f"{tag + ',' if tag else ''}\t{self.statement(cell)}\t/{octal(cell, 5)} {octal(word, 4)}{self.remark(cell) if self.is_noted else ''}")
-            if self.is_noted and cell in self.code and (word >> 8 == 0o13 or (word >> 8 == 0o17 and not word & 1 and word & 2)):
+            tag, row = self.tag(cell), self.row(cell)
+            found.append(f"{tag + ',' if tag else ''}\t{self.line(row)}")
+            if self.is_noted and self.has_gap(cell):
                 found.append("")
-            before = cell
+            before = row[-1]
         return [*found, "$"]
 
 

@@ -100,6 +100,6 @@ class Pal8Listing(Listing):
             found += self.above(cell) if self.is_noted else []
             tag = self.tag(cell)
             found.append(f"{tag + ',' if tag else ''}\t{self.statement(cell)}{comment}{self.remark(cell) if self.is_noted else ''}")
-            if self.is_noted and cell in self.code and (word >> 8 == 0o13 or (word >> 8 == 0o17 and not word & 1 and word & 2)):
+            if self.is_noted and self.has_gap(cell):
                 found.append("")
         return [*found, "$"]

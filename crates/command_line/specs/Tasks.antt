@@ -107,7 +107,7 @@ IsDrive id number values drive = (first_of id values ≡ option_map (λ image. i
 abbrev pub IsDisk : Text → List Row → DiskForm → Type 0
 IsDisk id values form = IsDrive id (codes "0") values form.drive0
     × IsDrive (codes "rk1") (codes "1") values form.drive1 × IsDrive (codes "rk2") (codes "2") values form.drive2
-    × IsDrive (codes "rk3") (codes "3") values form.drive3 × (form.is_look ≡ is_set (codes "look") values)
+    × IsDrive (codes "rk3") (codes "3") values form.drive3 × (form.is_look ≡ is_set (codes "look") values) × (form.wait ≡ wait_of values)
     × (form.disk_time ≡ time_or 10 (codes "disk-time") values) × (form.seek_time ≡ time_or 10 (codes "seek-time") values)
 
 -- the times of a disk are 0 to 1000000

@@ -9,7 +9,9 @@ ghost use Rattle.command_line.specs.Steps.{IsAskedBy, Needs};
 ghost use Rattle.command_line.specs.Tasks.{AreFitLimits, AreFitTimes, IsConsole, IsDisk, IsDrive};
 
 use clap::ArgMatches;
-use command_table::{Read, Verb, count_of, flag, names_drive, octal_of, time_of, value_if_given};
+use command_table::{
+    Read, Verb, count_of, flag, names_drive, octal_of, time_of, value_if_given, wait_of,
+};
 use program_tasks::{ConsoleForm, DiskForm, DriveForm, Task};
 use std::alloc::Global;
 
@@ -36,6 +38,7 @@ pub fn console_of(alloc: Global, found: &ArgMatches<'_>, verb: Verb, id: &str) -
     requires drive3 { takes_text (kind_at (codes "rk3") (rows_for verb)) ≡ true }
     requires lock { kind_at (codes "lock") (rows_for verb) ≡ Some (kind.Many form.Drive) }
     requires look { kind_at (codes "look") (rows_for verb) ≡ Some kind.Flag }
+    requires wait { kind_at (codes "wait") (rows_for verb) ≡ Some (kind.One form.Seconds) }
     requires disk_time { kind_at (codes "disk-time") (rows_for verb) ≡ Some (kind.One form.Time) }
     requires seek_time { kind_at (codes "seek-time") (rows_for verb) ≡ Some (kind.One form.Time) }
     requires switches { kind_at (codes "switches") (rows_for verb) ≡ Some (kind.One form.Octal) }
@@ -71,6 +74,7 @@ pub fn disk_of(alloc: Global, found: &ArgMatches<'_>, verb: Verb, id: &str) -> R
     requires drive3 { takes_text (kind_at (codes "rk3") (rows_for verb)) ≡ true }
     requires lock { kind_at (codes "lock") (rows_for verb) ≡ Some (kind.Many form.Drive) }
     requires look { kind_at (codes "look") (rows_for verb) ≡ Some kind.Flag }
+    requires wait { kind_at (codes "wait") (rows_for verb) ≡ Some (kind.One form.Seconds) }
     requires disk_time { kind_at (codes "disk-time") (rows_for verb) ≡ Some (kind.One form.Time) }
     requires seek_time { kind_at (codes "seek-time") (rows_for verb) ≡ Some (kind.One form.Time) }
     ensures disk { IfOk result (IsDisk id.now (values_in found.now)) }
@@ -86,6 +90,7 @@ pub fn disk_of(alloc: Global, found: &ArgMatches<'_>, verb: Verb, id: &str) -> R
         drive2,
         drive3,
         is_look: flag(found, verb, "look"),
+        wait: wait_of(found, verb),
         disk_time: time_of(found, verb, "disk-time", USUAL_TIME),
         seek_time: time_of(found, verb, "seek-time", USUAL_TIME),
     })

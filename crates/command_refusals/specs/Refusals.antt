@@ -162,7 +162,7 @@ names_disk values = has (codes "rk0") values || has (codes "rk1") values || has 
 
 -- something is said of the disk of an 8/E
 abbrev pub says_of_disk : List Row → Bool
-says_of_disk values = names_disk values || has (codes "lock") values || is_set (codes "look") values || has (codes "disk-time") values || has (codes "seek-time") values
+says_of_disk values = names_disk values || has (codes "lock") values || is_set (codes "look") values || has (codes "wait") values || has (codes "disk-time") values || has (codes "seek-time") values
 
 -- something is said of an 8/E at the console
 abbrev pub says_of_console : List Row → Bool

@@ -122,6 +122,7 @@ fn says_of_disk(found: &ArgMatches<'_>) -> bool
     names_disk(found)
         || has(found, "lock")
         || is_set(found, "look")
+        || has(found, "wait")
         || has(found, "disk-time")
         || has(found, "seek-time")
 }

@@ -89,6 +89,7 @@ pub const TELETYPE: &[Argument] = rows! {
     "rk3" option Kind::One(Form::Text), "IMAGE", "The file of the disk in drive 3";
     "lock" option Kind::Many(Form::Drive), "DRIVE", "Lock a drive, 0 to 3, so that nothing is written to its disk; may be given for each drive";
     "look" flag Kind::Flag, "", "Write no file: what is written to a disk is gone at the end";
+    "wait" option Kind::One(Form::Seconds), "SECONDS", "Wait so long while another program holds the file of a disk, 0 to 3600 seconds; else not at all";
     "disk-time" option Kind::One(Form::Time), "N", "The instructions of a transfer beside its seek, 0 to 1000000; else 10";
     "seek-time" option Kind::One(Form::Time), "N", "The instructions that an arm takes for each cylinder, 0 to 1000000; else 10";
     "every" option Kind::One(Form::Time), "N", "Save changed disks while a key is waited for, N instructions or more after the last save, 0 to 1000000; else 1000000, and 0 is for never";
@@ -114,6 +115,7 @@ pub const TRACE: &[Argument] = rows! {
     "rk3" option Kind::One(Form::Text), "IMAGE", "The file of the disk in drive 3";
     "lock" option Kind::Many(Form::Drive), "DRIVE", "Lock a drive, 0 to 3, so that nothing is written to its disk; may be given for each drive";
     "look" flag Kind::Flag, "", "Write no file: what is written to a disk is gone at the end";
+    "wait" option Kind::One(Form::Seconds), "SECONDS", "Wait so long while another program holds the file of a disk, 0 to 3600 seconds; else not at all";
     "disk-time" option Kind::One(Form::Time), "N", "The instructions of a transfer beside its seek, 0 to 1000000; else 10";
     "seek-time" option Kind::One(Form::Time), "N", "The instructions that an arm takes for each cylinder, 0 to 1000000; else 10";
     "reader" option Kind::One(Form::Text), "FILE", "With --cpu 8e the file of the tape in the paper tape reader";
@@ -132,6 +134,7 @@ pub const BOOT: &[Argument] = rows! {
     "rk3" option Kind::One(Form::Text), "IMAGE", "The file of the disk in drive 3";
     "lock" option Kind::Many(Form::Drive), "DRIVE", "Lock a drive, 0 to 3, so that nothing is written to its disk; may be given for each drive";
     "look" flag Kind::Flag, "", "Write no file: what is written to a disk is gone at the end";
+    "wait" option Kind::One(Form::Seconds), "SECONDS", "Wait so long while another program holds the file of a disk, 0 to 3600 seconds; else not at all";
     "disk-time" option Kind::One(Form::Time), "N", "The instructions of a transfer beside its seek, 0 to 1000000; else 10";
     "seek-time" option Kind::One(Form::Time), "N", "The instructions that an arm takes for each cylinder, 0 to 1000000; else 10";
     "switches" option Kind::One(Form::Octal), "WWWW", "The word that the switches are set to, in octal; else 0000";

@@ -2,6 +2,7 @@
 use Rattle.std.proofs.Common.{◌≡◌, ◌∙◌, ℕ, Bool, true, false, Option, None, Some, Result, Ok, Err, List, [], ◌∷◌, ap, refl, inl, inr}
 use Rattle.hosts.specs.Event.{Event, Look, TimeOf, failed_call}
 use Rattle.hosts.specs.Place.{about}
+use Rattle.hosts.specs.declared.faults.HostFault.TheVariants as host
 use Rattle.outcome.specs.Hints.{image_note}
 use Rattle.outcome.specs.declared.contents.Content.TheVariants as content
 use Rattle.outcome.specs.declared.endings.Ending.{Ending}
@@ -31,6 +32,7 @@ use Rattle.image_files.specs.Inputs.{TakesInput}
 use Rattle.image_files.specs.Reading.{IsUnread, FindsIn, FindsOne, Holds, HoldsAt, Looks, LooksAt, LooksIf, LooksImage, MakesOne, hold_calls, looked_name, reading_of, with_lock_note, JudgesForScript, JudgesLooked, JudgesOpened, IsJudged, MakesOf, Opens, OpensForScript, judgment_of, IsUnheldImage}
 use Rattle.image_files.specs.Reasons.{is_untold, is_want_of_memory}
 use Rattle.image_files.specs.Saving.{Prints}
+use Rattle.image_files.specs.Waiting.{AreBusy, TellsBusy, Within}
 use Rattle.image_files.specs.Work.{After, Then, Purely}
 use Rattle.image_files.specs.declared.images.Image.{Image}
 use Rattle.image_files.specs.declared.mending.ImageReading.{ImageReading}
@@ -148,6 +150,24 @@ holds-keeps name old (Ok place) new p path = held-at name path place place.is_he
 holds-keeps name old (Err ending) new (inl (fault, unheld, (between, idle, failed, why, told))) path =
     unless-keeps (is_untold content.Image fault) (reason.Fault fault) name between new told path ∙ idle.files path
 holds-keeps name old (Err ending) new (inr (is, p)) path = same path p
+
+-- ## Tries
+
+busy-keeps : {A : Type 0} (command : List Event → Result A Ending → List Event → Type 0) → KeepsFiles command → (tries : List (List Event)) (old new : List Event) → AreBusy command tries old new
+    → (path : List ℕ) → about path new ≡ about path old
+busy-keeps command keeps [] old new is path = same path is
+busy-keeps command keeps (before ∷ earlier) old new (busy, after, last, is) path =
+    same path is ∙ keeps before (Err (Busy content.Image)) after last path ∙ busy-keeps command keeps earlier old before busy path
+
+told-keeps : {A : Type 0} (name : List ℕ) (result : Result A Ending) (old new : List Event) → TellsBusy name result old new → (path : List ℕ) → about path new ≡ about path old
+told-keeps name result old new (inl p) path = same path p.1
+told-keeps name result old new (inr p) path = unless-keeps false (reason.Fault host.Busy) name old new p.1 path
+
+pub within-keeps : {A : Type 0} (seconds : ℕ) (name : List ℕ) (command : List Event → Result A Ending → List Event → Type 0) → KeepsFiles command → KeepsFiles (Within seconds name command)
+within-keeps seconds name command keeps old result new w path =
+    told-keeps name result w.after new w.told path ∙ keeps w.between result w.after w.last path ∙ busy-keeps command keeps w.tries old w.between w.busy path
+
+-- ## Images
 
 makes-keeps : (place : ImagePlace) (judgment : Judgment) (volumes : Volumes) (margins : Margins) (file : List ℕ) → KeepsFiles (MakesOne place judgment volumes margins file)
 makes-keeps place judgment (One layout) margins file old result new p path = same path p.1

@@ -21,5 +21,6 @@ pub mod SaveSteps
 pub mod Saving
 pub mod States
 pub mod Stored
+pub mod Waiting
 pub mod Work
 pub mod Years

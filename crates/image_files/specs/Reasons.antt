@@ -7,7 +7,7 @@ use Rattle.hosts.specs.declared.faults.FaultClass.TheVariants as class
 use Rattle.hosts.specs.declared.faults.HostFault.{HostFault}
 use Rattle.outcome.specs.Reasons.{reason_text, bare_text}
 use Rattle.outcome.specs.declared.contents.Content.{Content}
-use Rattle.outcome.specs.declared.contents.Content.TheVariants.{Image, Tape, Listing}
+use Rattle.outcome.specs.declared.contents.Content.TheVariants.{Image, Tape, Listing, Disk}
 use Rattle.outcome.specs.declared.reasons.Reason.{Reason}
 use Rattle.outcome.specs.declared.reasons.Reason.TheVariants.{Fault, Exists}
 
@@ -41,6 +41,7 @@ abbrev pub is_told_later : Content → Bool
 is_told_later Image = true
 is_told_later Tape = false
 is_told_later Listing = false
+is_told_later (Disk drive) = true
 
 abbrev pub is_class_untold : Content → FaultClass → Bool
 is_class_untold content class.Busy = is_told_later content

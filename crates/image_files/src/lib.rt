@@ -21,6 +21,7 @@ mod reading;
 mod reasons;
 mod saving;
 mod states;
+mod waiting;
 mod years;
 
 pub use answers::{
@@ -45,4 +46,5 @@ pub use reading::{
 pub use reasons::{tell_fault, tell_first, tell_reason};
 pub use saving::write_file;
 pub use states::{ChangeState, ImageNotes};
+pub use waiting::{TRIES, end_busy, hold_within};
 pub use years::{note_files, note_year};

@@ -77,7 +77,7 @@ fn is_told_later(content: Content) -> bool
     ensures { result ≡ spec.is_told_later content }
 {
     match content {
-        Content::Image => true,
+        Content::Image | Content::Disk(_) => true,
         Content::Tape | Content::Listing => false,
     }
 }

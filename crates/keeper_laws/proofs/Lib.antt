@@ -6,6 +6,7 @@ mod GoneLemmas
 mod GotBackLemmas
 mod CopyLemmas
 mod HeldLemmas
+mod LaidLemmas
 mod LineLemmas
 pub mod MakeLemmas
 mod ManyBackLemmas

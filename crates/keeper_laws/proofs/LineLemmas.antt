@@ -1,5 +1,5 @@
 -- The lines of refusals and of the program are of ASCII.
-use Rattle.std.proofs.Common.{◌≡◌, ◌<◌, ◌+◌, ◌/◌, ◌%◌, ◌==◌, ◌&&◌, inl, inr, ℕ, zero, suc, Bool, true, false, if◌then◌else◌, nat_lt, List, [], ◌∷◌, ◌++◌, refl, sym, ap, arith, codes, decimal, true≢false}
+use Rattle.std.proofs.Common.{◌≡◌, ◌<◌, ◌+◌, ◌/◌, ◌%◌, ◌==◌, ◌&&◌, inl, inr, ℕ, zero, suc, Bool, true, false, if◌then◌else◌, nat_eq, nat_lt, List, [], ◌∷◌, ◌++◌, refl, sym, ap, arith, codes, decimal, true≢false}
 use Rattle.std.specs.Str.{IsAscii, IsUtf8}
 use Rattle.hosts.specs.Event.{Event, tell_call}
 use Rattle.image_files.specs.Ending.{TellsLine}
@@ -31,7 +31,9 @@ use Rattle.os8_dir.specs.declared.faults.DirFault.TheVariants as directory
 use Rattle.os8_dir.specs.declared.file_faults.FileFault.{FileFault}
 use Rattle.os8_dir.specs.declared.file_faults.FileFault.TheVariants as file
 use Rattle.name_spelling.specs.Spelling.{all_zero, is_digit_code, is_letter_code, spelled_code, spelled_codes, text_of, two_codes, with_dot}
-use Rattle.program_reports.specs.Program.{core_text, disk_text, frame_text, image_text, program_line, program_text, refusal_text, rim_text}
+use Rattle.program_reports.specs.Program.{core_text, disk_text, drive_text, frame_text, image_text, program_line, program_text, refusal_of_drive, refusal_text, rim_text}
+use Rattle.program_reports.specs.declared.drives.DriveRefusal.{DriveRefusal}
+use Rattle.program_reports.specs.declared.drives.DriveRefusal.TheVariants as refused
 use Rattle.program_reports.specs.declared.programs.ProgramLine.{ProgramLine}
 use Rattle.program_reports.specs.declared.programs.ProgramLine.TheVariants as line
 use Rattle.refusals.specs.Faults.{asm_fault_text, code_text, directory_fault_text, fault_line, fault_text, file_fault_text, tape_fault_text}
@@ -215,6 +217,19 @@ image-plain image.TooLarge = plain _ refl
 image-plain (image.BadWord index) = joined (codes "? IMAGE 4 BAD WORD ") (decimal index) (plain _ refl) (decimal-plain index)
 image-plain image.Memory = plain _ refl
 
+of-drive-plain : (why : DriveRefusal) → IsPlain (refusal_of_drive why)
+of-drive-plain refused.Unread = plain _ refl
+of-drive-plain refused.Unwritten = plain _ refl
+of-drive-plain refused.Busy = plain _ refl
+of-drive-plain (refused.Image fault) = image-plain fault
+
+drive-plain-if : (is : Bool) (drive : ℕ) → IsPlain (if is then [] else codes " RK" ++ octal_digit drive ∷ [])
+drive-plain-if true drive = plain-nil
+drive-plain-if false drive = joined (codes " RK") (octal_digit drive ∷ []) (plain _ refl) (plain-cons (octal_digit drive) [] (omega arith) plain-nil)
+
+drive-plain : (drive : ℕ) → IsPlain (drive_text drive)
+drive-plain drive = drive-plain-if (nat_eq drive 0) drive
+
 rim-plain : (fault : RimFault) → IsPlain (rim_text fault)
 rim-plain (rim.BadFrame place frame) = joined (codes "? RIM 1 BAD FRAME " ++ decimal place ++ codes " ") (frame_text frame)
     (joined (codes "? RIM 1 BAD FRAME " ++ decimal place) (codes " ") (joined (codes "? RIM 1 BAD FRAME ") (decimal place) (plain _ refl) (decimal-plain place)) (plain _ refl)) (frame-plain frame)
@@ -277,6 +292,7 @@ program-plain (line.Start cell) = joined (codes "START ") (octal5 cell) (plain _
 program-plain (line.Core fault) = core-plain fault
 program-plain (line.Rim fault) = rim-plain fault
 program-plain (line.Image fault) = image-plain fault
+program-plain (line.OfDrive drive why) = joined (refusal_of_drive why) (drive_text drive) (of-drive-plain why) (drive-plain drive)
 program-plain (line.Directory fault) = directory-plain fault
 
 pub line-text : (it : ProgramLine) → IsUtf8 (program_line it)

@@ -4,6 +4,7 @@ pub mod Copied
 pub mod Ended
 pub mod GettingBack
 pub mod Held
+pub mod Laid
 pub mod Made
 pub mod Seen
 pub mod Sound

@@ -39,6 +39,7 @@ ghost use Rattle.change_commands.specs.Deleting.{Deletes};
 ghost use Rattle.get_commands.specs.Showing.{Shows};
 ghost use Rattle.keeper_laws.specs.GettingBack.{IsPrinted};
 ghost use Rattle.put_commands.specs.Putting.{Puts, given_name};
+ghost use Rattle.keeper_laws.specs.Changed.{GetsVolume};
 ghost use Rattle.keeper_laws.specs.Changes.{HasDeleted, HasEmptied, HasPatched, HasRenamed, HasSqueezed, IsWithout};
 ghost use Rattle.keeper_laws.specs.Copied.{HasCopied, copied_name};
 ghost use Rattle.keeper_laws.specs.Ended.{EndsAs, ReadsHeld, RefusesAloud, TouchesItAlone, TouchesOne};
@@ -205,6 +206,18 @@ pub fn put_then_got()
         (between : List Event) (result : Result (Unit {0}) End) (new : List Event) → IsPrinted form.image stored.has.file name how bytes → IsSeen start stored.path old stored.was
         → about stored.path between ≡ about stored.path mid → AreAlike form.image again → again.is_lenient ≡ false
         → GivesWhatIsSeen start again.file.bytes.items stored.path new → Shows (λ image. Gets image (OfName name) how) again between result new
+        → LooksAndPrints again bytes between result new }
+{
+    found_again();
+}
+
+/// The same of each change of an image, as of `copy` and of `assemble --onto`. What is got of the image file as it was left, `get` prints, if it is run
+/// after the change.
+pub fn change_then_got()
+    ensures { (form : Kept) (image : Opened) (path was saved : List ℕ) (old mid : List Event) (has : GetsVolume form image path was saved old mid) (name : List ℕ) (how : How)
+        (bytes : List ℕ) (start : Place) (again : Kept) (between : List Event) (result : Result (Unit {0}) End) (new : List Event) → IsPrinted form has.file name how bytes
+        → IsSeen start path old was → about path between ≡ about path mid → AreAlike form again → again.is_lenient ≡ false
+        → GivesWhatIsSeen start again.file.bytes.items path new → Shows (λ image. Gets image (OfName name) how) again between result new
         → LooksAndPrints again bytes between result new }
 {
     found_again();

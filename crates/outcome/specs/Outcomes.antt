@@ -6,8 +6,7 @@ use Rattle.refusals.specs.Faults.{fault_line}
 use Rattle.refusals.specs.declared.faults.SessionFault.{SessionFault}
 use Rattle.refusals.specs.declared.faults.SessionFault.TheVariants.{BadLine, NoJob, TooManyJobs, File, Asm, Tape, BadText, Reader, Writer, Memory, TooManyBreaks}
 use Rattle.program_reports.specs.Program.{program_line}
-use Rattle.program_reports.specs.declared.programs.ProgramLine.TheVariants.{HostWrite, HostBusy}
-use Rattle.outcome.specs.Contents.{content_name}
+use Rattle.outcome.specs.Contents.{content_name, line_of_busy, line_of_write}
 use Rattle.outcome.specs.Notes.{file_text}
 use Rattle.outcome.specs.declared.contents.Content.{Content}
 use Rattle.outcome.specs.declared.notes.FileNote.{FileNote}
@@ -63,8 +62,8 @@ abbrev pub ending_outcome : Bool → Ending → Writing
 ending_outcome is_data (ending.Line line) = refusal is_data [] (program_line line)
 ending_outcome is_data (ending.Fault fault) = fault_outcome is_data fault
 ending_outcome is_data ending.Failure = silence 1
-ending_outcome is_data (ending.Busy content) = refusal is_data (note_on file.Busy content) (program_line HostBusy)
-ending_outcome is_data (ending.NotWritten content left) = refusal is_data (note_on (note_of_write left) content) (program_line HostWrite)
+ending_outcome is_data (ending.Busy content) = refusal is_data (note_on file.Busy content) (program_line (line_of_busy content))
+ending_outcome is_data (ending.NotWritten content left) = refusal is_data (note_on (note_of_write left) content) (program_line (line_of_write content))
 ending_outcome is_data ending.FullOutput = full_output
 ending_outcome is_data ending.Unreported = full_output
 ending_outcome is_data ending.NoReader = silence 141

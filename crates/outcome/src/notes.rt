@@ -241,6 +241,7 @@ impl FileNote {
             Content::Image => self.text_on_image(),
             Content::Tape => self.text_on_tape(),
             Content::Listing => self.text_on_listing(),
+            Content::Disk(_) => self.text_on_image(),
         }
     }
 

@@ -59,12 +59,14 @@ fn ending_outcome(room: LineRoom, is_data: bool, ending: Ending) -> Outcome
         Ending::Fault(fault) => fault_outcome(room, is_data, fault),
         Ending::Failure => silence(room, REFUSAL),
         Ending::Busy(content) => {
+            let line = content.line_of_busy();
             let note = (FileNote::Busy, content);
-            refusal(room, is_data, Some(note), &ProgramLine::HostBusy)
+            refusal(room, is_data, Some(note), &line)
         }
         Ending::NotWritten(content, left) => {
+            let unwritten = content.line_of_write();
             let note = (note_of_write(left), content);
-            refusal(room, is_data, Some(note), &ProgramLine::HostWrite)
+            refusal(room, is_data, Some(note), &unwritten)
         }
         Ending::FullOutput | Ending::Unreported => full_output(room),
         Ending::NoReader => silence(room, NO_READER),

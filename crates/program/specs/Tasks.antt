@@ -53,7 +53,8 @@ use Rattle.run_commands.specs.Boots.{BootsDisk}
 use Rattle.run_commands.specs.Profiles.{ProfilesTape}
 use Rattle.run_commands.specs.Teletypes.{RunsTeletype}
 use Rattle.run_commands.specs.Traces.{TracesTape}
-use Rattle.program.specs.Changes.{Within, file_for, seconds_for}
+use Rattle.image_files.specs.Waiting.{Within}
+use Rattle.program.specs.Changes.{file_for, seconds_for}
 use Rattle.image_files.specs.declared.states.ImageNotes.{ImageNotes}
 use Rattle.program.specs.Changed.{AreNotesFor, image_of}
 use Rattle.program.specs.Asking.{AsksFirst, file_of_form}

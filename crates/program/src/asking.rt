@@ -6,7 +6,7 @@ ghost use Rattle.program.specs.Asking as spec;
 ghost use Rattle.program.specs.Asking.{Answers, AsksFirst, AsksFull, AsksSeen, LooksFull, SeesErrors, TakesAnswer};
 ghost use Rattle.program.specs.Changes.{DoesChange, file_of, seconds_of};
 ghost use Rattle.image_files.specs.Work.{Then};
-ghost use Rattle.program.specs.Changes.{Within};
+ghost use Rattle.image_files.specs.Waiting.{Within};
 
 use crate::changes::{Change, change_image};
 use byte_reader::{ByteReader, read_bytes};

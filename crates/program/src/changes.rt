@@ -1,7 +1,8 @@
 //! Commands that write an image file, which are tried again while another program holds it.
 ghost use Rattle.std.specs.Prelude.{◌≡◌};
 ghost use Rattle.script_commands.specs.Scripts.{OpensFor};
-ghost use Rattle.program.specs.Changes.{DoesChange, TellsBusy, Within, file_of, seconds_of};
+ghost use Rattle.image_files.specs.Waiting.{Within};
+ghost use Rattle.program.specs.Changes.{DoesChange, file_of, seconds_of};
 
 use archive_files::Asked;
 use assemble_commands::assemble_files;
@@ -9,18 +10,15 @@ use change_commands::{
     WordPatch, copy_files, create_disk, create_image, create_tape, create_volume, delete_files,
     patch_word, rename_file, squeeze_files,
 };
-use hosts::{Host, HostFault};
-use image_files::{Image, tell_reason};
-use outcome::{Content, Ending, Reason};
+use hosts::Host;
+use image_files::{Image, TRIES, end_busy};
+use outcome::{Content, Ending};
 use program_tasks::{
     AssembleForm, CopyForm, CreateForm, DeleteForm, ImageForm, PutFilesForm, Saving,
 };
 use put_commands::put_files;
 use script_commands::open_image;
 use std::alloc::Global;
-
-/// How many times a second a command is tried again.
-pub const TRIES: u128 = 20;
 
 /// A task that writes an image file.
 #[derive(Drop)]
@@ -80,25 +78,6 @@ pub fn open_within<H: Host>(
     }
     let found = open_image(host, alloc, image, saving);
     end_busy(host, alloc, image.file.as_str(), found)
-}
-
-/// What the last try answered. Where another program holds the image in the file of a name, that is printed.
-fn end_busy<H: Host, T: Drop>(
-    host: &mut H,
-    alloc: Global,
-    name: &str,
-    work: Result<T, Ending>,
-) -> Result<T, Ending>
-    ensures same { result ≡ work }
-    ensures told { TellsBusy name.now result (H.history host.old) (H.history host.new) }
-{
-    match work {
-        Err(Ending::Busy(Content::Image)) => {
-            tell_reason(host, alloc, name, Reason::Fault(HostFault::Busy));
-            Err(Ending::Busy(Content::Image))
-        }
-        other => other,
-    }
 }
 
 impl Change {

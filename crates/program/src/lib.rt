@@ -13,7 +13,7 @@ mod words;
 
 pub use asking::change_asked;
 pub use changed::image_of;
-pub use changes::{Change, TRIES, change_image, open_within};
+pub use changes::{Change, change_image, open_within};
 pub use doing::{do_task, run_task};
 pub use running::run_program;
 pub use words::run_words;

@@ -45,14 +45,14 @@ use Rattle.program_laws.specs.Assembled.{AreTextsOf, HasAssembled, IsTapeIn}
 
 -- ## Words that clash
 
-clash-rejected : (clash : Option (NameNote × List ℕ)) (old : List Event) (ending : Ending) (new : List Event) → IsRefused clash old ending new → (is_refusal ending ≡ true) × DoesNothing old new
+pub clash-rejected : (clash : Option (NameNote × List ℕ)) (old : List Event) (ending : Ending) (new : List Event) → IsRefused clash old ending new → (is_refusal ending ≡ true) × DoesNothing old new
 clash-rejected None old ending new p = absurd p
 clash-rejected (Some clash) old ending new (inl (is, ok, p)) = (ends-so ending _ is refl, noted ok (name_text clash.0 clash.1) old new p)
 clash-rejected (Some clash) old ending new (inr p) = (ends-so ending _ p.0 refl, nothing old new p.1)
 
 -- ## The sources
 
-text-rejects : (image name : List ℕ) (wanted : Target) → Rejects (GetsText image name wanted)
+pub text-rejects : (image name : List ℕ) (wanted : Target) → Rejects (GetsText image name wanted)
 text-rejects image name wanted old ending new (fault, gets, inl (ok, p)) =
     let r = refuses-rejected fault (length image) (tell_call ok (name_text NoSource name) ∷ old) ending new p in
     (r.0, nothing-then old (tell_call ok (name_text NoSource name) ∷ old) new (noted ok (name_text NoSource name) old (tell_call ok (name_text NoSource name) ∷ old) refl) r.1)
@@ -160,11 +160,11 @@ made-rejects : (made : Assembled) → Rejects (Purely (IsMade made))
 made-rejects made old ending new p = absurd p.0
 
 -- the tape of sources, and what was printed on standard error
-record HasTape (is_pal8 : Bool) (form : AssembleForm) (sources : List (Bor (List ℕ))) (made : Assembled) (old new : List Event) : Type 0 where
-  tape : IsTapeIn is_pal8 form sources made.tape.items
-  quiet : IsQuiet [] old new
+pub record HasTape (is_pal8 : Bool) (form : AssembleForm) (sources : List (Bor (List ℕ))) (made : Assembled) (old new : List Event) : Type 0 where
+  pub tape : IsTapeIn is_pal8 form sources made.tape.items
+  pub quiet : IsQuiet [] old new
 
-makes-if : (is_pal8 : Bool) (form : AssembleForm) (sources names : List (Bor (List ℕ))) (old : List Event) (made : Assembled) (new : List Event) → MakesIf is_pal8 form sources names old (Ok made) new → HasTape is_pal8 form sources made old new
+pub makes-if : (is_pal8 : Bool) (form : AssembleForm) (sources names : List (Bor (List ℕ))) (old : List Event) (made : Assembled) (new : List Event) → MakesIf is_pal8 form sources names old (Ok made) new → HasTape is_pal8 form sources made old new
 makes-if true form sources names old made new (inl ends) = absurd ends
 makes-if true form sources names old made new (inr it) = noted-then it.after
   where
@@ -206,7 +206,7 @@ has-sources form texts old made new (inr it) = named it.after
           quiet-then [] [] old two.between new (still old two.between (two.done.1 ∙ it.done.1)) h.quiet,
         )
 
-makes-reject : (form : AssembleForm) (texts : List (List ℕ)) → Rejects (Makes form texts)
+pub makes-reject : (form : AssembleForm) (texts : List (List ℕ)) → Rejects (Makes form texts)
 makes-reject form texts = then-rejects (Purely (AreLent texts)) (λ sources. Then (Purely (AreLent (map (λ name. name.bytes.items) form.sources.items))) (λ names. MakesIf form.is_pal8 form sources.items names.items))
     (lent-rejects texts) (λ old sources new p. nothing old new p.1)
     (λ sources. then-rejects (Purely (AreLent (map (λ name. name.bytes.items) form.sources.items))) (λ names. MakesIf form.is_pal8 form sources.items names.items)

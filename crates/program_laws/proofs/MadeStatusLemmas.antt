@@ -14,7 +14,7 @@ use Rattle.program_tasks.specs.declared.tasks.Task.{Task}
 use Rattle.image_files.specs.Work.{Then}
 use Rattle.salvage_commands.specs.Rescuing.{RescuesImage}
 use Rattle.program.specs.Asking.{AsksFirst}
-use Rattle.program.specs.Changes.{AreBusy, Within}
+use Rattle.image_files.specs.Waiting.{AreBusy, Within}
 use Rattle.program.specs.Tasks.{DoesTask, RunsTask}
 use Rattle.keeper_laws.specs.Ended.{DoesNothing, EndsAs, RefusesAloud, SaysNo}
 use Rattle.keeper_laws.specs.Made.{EndsMade, EndsRescued, HasRescued, MakesNone, MayBeInPart}

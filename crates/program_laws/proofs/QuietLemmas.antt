@@ -78,7 +78,8 @@ use Rattle.drive_files.specs.Opening.{are_saved}
 use Rattle.run_commands.specs.Devices8e.{has_papers}
 use Rattle.run_commands.specs.Teletypes.{RunsTeletype}
 use Rattle.run_commands.specs.Traces.{TracesTape}
-use Rattle.program.specs.Changes.{AreBusy, TellsBusy, Within, file_for, seconds_for}
+use Rattle.image_files.specs.Waiting.{AreBusy, TellsBusy, Within}
+use Rattle.program.specs.Changes.{file_for, seconds_for}
 use Rattle.program.specs.Tasks.{ChoosesStyle, DoesTask, ListsIndex, RunsImage, RunsTask, ScansBlocks, reading_of_index, shape_of}
 use Rattle.program_laws.specs.Quiet.{has_output, may_change, saves}
 
@@ -87,7 +88,7 @@ same is = λ path. ap (λ (events : List Event). about path events) is
 
 -- ## Tries
 
-busy-keeps : {A : Type 0} (command : List Event → Result A Ending → List Event → Type 0) → KeepsFiles command → (tries : List (List Event)) (old new : List Event) → AreBusy command tries old new → ChangesNothing old new
+pub busy-keeps : {A : Type 0} (command : List Event → Result A Ending → List Event → Type 0) → KeepsFiles command → (tries : List (List Event)) (old new : List Event) → AreBusy command tries old new → ChangesNothing old new
 busy-keeps command keeps [] old new is path = same is path
 busy-keeps command keeps (before ∷ earlier) old new (busy, after, last, is) path =
     same is path ∙ keeps before (Err (Busy Held)) after last path ∙ busy-keeps command keeps earlier old before busy path

@@ -38,7 +38,7 @@ use Rattle.image_files.specs.declared.states.ChangeState.{ChangeState}
 use Rattle.image_files.specs.declared.states.ImageNotes.{ImageNotes}
 use Rattle.image_files.specs.Work.{Then}
 use Rattle.program.specs.Asking.{AsksFirst, AsksFull, AsksSeen, IsFull}
-use Rattle.program.specs.Changes.{AreBusy, Within}
+use Rattle.image_files.specs.Waiting.{AreBusy, Within}
 use Rattle.program.specs.Tasks.{DoesTask, RunsTask}
 use Rattle.keeper_laws.specs.Changes.{HasDeleted, HasEmptied, HasPatched, HasRenamed, HasSqueezed}
 use Rattle.keeper_laws.specs.Copied.{HasCopied}
@@ -208,7 +208,7 @@ full-nothing : (name : List ℕ) (is : Bool) (old new : List Event) → IsFull n
 full-nothing name is old new (inl (bytes, so, p)) = (λ path. ap (λ (n : List Event). about path n) p, ap output p)
 full-nothing name is old new (inr (fault, so, p)) = (λ path. ap (λ (n : List Event). about path n) p, ap output p)
 
-nothing-joined : (old mid new : List Event) → DoesNothing old mid → DoesNothing mid new → DoesNothing old new
+pub nothing-joined : (old mid new : List Event) → DoesNothing old mid → DoesNothing mid new → DoesNothing old new
 nothing-joined old mid new first next = (λ path. next.0 path ∙ first.0 path, next.1 ∙ first.1)
 
 asked-nothing : (name : List ℕ) (input : Reading) (is : Bool) (old : List Event) (result : Result (Unit {0}) Ending) (new : List Event) → AsksSeen name input is old result new → DoesNothing old new

@@ -1,19 +1,15 @@
 -- What words come to that ask for no task.
-use Rattle.std.proofs.Common.{◌≡◌, ◌∙◌, ◌⊎◌, ◌*◌, ℕ, Bool, true, false, None, Result, Err, List, ap, subst, arith, inl, inr, refl, length}
+use Rattle.std.proofs.Common.{◌≡◌, ◌∙◌, ◌⊎◌, ℕ, Bool, true, false, None, Err, List, ap, subst, arith, inl, inr, refl}
 use Rattle.clap.specs.Words.{kind_of}
 use Rattle.hosts.specs.Event.{Event}
 use Rattle.hosts.specs.Place.{about}
 use Rattle.command_refusals.specs.declared.faults.TaskFault.{TaskFault}
 use Rattle.command_refusals.specs.declared.faults.TaskFault.TheVariants.{Words, Memory, Refused}
 use Rattle.refusals.specs.declared.faults.SessionFault.TheVariants.{Memory as no_memory}
-use Rattle.outcome.specs.declared.contents.Content.TheVariants.{Image as Held}
-use Rattle.outcome.specs.declared.endings.Ending.{Ending}
-use Rattle.outcome.specs.declared.endings.Ending.TheVariants.{Busy, Fault}
+use Rattle.outcome.specs.declared.endings.Ending.TheVariants.{Fault}
 use Rattle.image_files.specs.Laws.{ChangesNothing, KeepsFiles}
 use Rattle.image_files.specs.Saving.{Prints}
-use Rattle.program.specs.Changes.{Within}
 use Rattle.program.specs.Words.{IsMisuse, IsShown, RefusesWords, ShowsText, WantsMemory, is_request}
-use Rattle.program.specs.declared.changes.TheConstants.{TRIES}
 use Rattle.program_laws.specs.Refused.{asks_help}
 use Rattle.program_laws.proofs.QuietLemmas.{ends-so}
 use Rattle.program_laws.proofs.StatusLemmas.{zero-done}

@@ -1,6 +1,13 @@
 pub mod Assembled
 pub mod Characters
+pub mod Disks
+pub mod Ends
 pub mod Letters
+pub mod Outputs
 pub mod Quiet
+pub mod Reads
 pub mod Refused
+pub mod Runs
 pub mod Statuses
+pub mod Tapes
+pub mod Tries

@@ -25,7 +25,7 @@ ghost use Rattle.os8_dates.specs.declared.years.TheConstants.{FIRST_YEAR, LAST_Y
 ghost use Rattle.image_kind.specs.declared.lines.TheConstants.{MOST_LINES};
 ghost use Rattle.volume_salvage.specs.declared.scan_lines.TheConstants.{MOST_SHOWN};
 ghost use Rattle.command_table.specs.declared.table.TheConstants.{MOST_IMAGES};
-ghost use Rattle.program.specs.declared.changes.TheConstants.{TRIES};
+ghost use Rattle.image_files.specs.declared.waiting.TheConstants.{TRIES};
 
 /// How large words' places, volumes and packs are, and where sources begin. How many lines, faults, images and tries there are at most, and which
 /// years dates have.

@@ -1,5 +1,5 @@
 -- The lines that the program prints beside those of a session (this project's profile).
-use Rattle.std.specs.Prelude.{ℕ, ◌/◌, codes, decimal, List, [], ◌∷◌, ◌++◌}
+use Rattle.std.specs.Prelude.{ℕ, ◌/◌, nat_eq, if◌then◌else◌, codes, decimal, List, [], ◌∷◌, ◌++◌}
 use Rattle.word12.specs.Octal.{octal_digit, octal4, octal5}
 use Rattle.core_image.specs.declared.faults.CoreFault.{CoreFault}
 use Rattle.core_image.specs.declared.faults.CoreFault.TheVariants as core
@@ -13,6 +13,8 @@ use Rattle.volume_image.specs.declared.faults.ImageFault.{ImageFault}
 use Rattle.volume_image.specs.declared.faults.ImageFault.TheVariants as image
 use Rattle.refusals.specs.Faults.{directory_fault_text}
 use Rattle.name_spelling.specs.Spelling.{text_of}
+use Rattle.program_reports.specs.declared.drives.DriveRefusal.{DriveRefusal}
+use Rattle.program_reports.specs.declared.drives.DriveRefusal.TheVariants as refused
 use Rattle.program_reports.specs.declared.programs.ProgramLine.{ProgramLine}
 use Rattle.program_reports.specs.declared.programs.ProgramLine.TheVariants as line
 
@@ -60,6 +62,17 @@ disk_text disk.TooLong = codes "? DISK 1 TOO LONG"
 disk_text disk.NoTape = codes "? DISK 2 NO DECTAPE"
 disk_text disk.Memory = codes "? 10 MEMORY"
 
+-- why the file of a drive's disk is refused
+abbrev pub refusal_of_drive : DriveRefusal → List ℕ
+refusal_of_drive refused.Unread = codes "? HOST READ"
+refusal_of_drive refused.Unwritten = codes "? HOST WRITE"
+refusal_of_drive refused.Busy = codes "? HOST BUSY"
+refusal_of_drive (refused.Image fault) = image_text fault
+
+-- the drive, if it isn't 0
+abbrev pub drive_text : ℕ → List ℕ
+drive_text drive = if nat_eq drive 0 then [] else codes " RK" ++ octal_digit drive ∷ []
+
 abbrev pub program_text : ProgramLine → List ℕ
 program_text (line.Created blocks) = codes "CREATED " ++ decimal blocks
 program_text line.HostRead = codes "? HOST READ"
@@ -90,6 +103,7 @@ program_text (line.Start cell) = codes "START " ++ octal5 cell
 program_text (line.Core fault) = core_text fault
 program_text (line.Rim fault) = rim_text fault
 program_text (line.Image fault) = image_text fault
+program_text (line.OfDrive drive why) = refusal_of_drive why ++ drive_text drive
 program_text (line.Directory fault) = directory_fault_text fault
 
 -- a line of the program

@@ -2,12 +2,14 @@
 #![tactic(auto)]
 
 mod cores;
+mod drives;
 mod faults;
 mod line_ends;
 mod prefixes;
 mod programs;
 
 pub use cores::core_tape;
+pub use drives::DriveRefusal;
 pub use faults::SourceFault;
 pub use line_ends::with_line_feeds;
 pub use prefixes::with_prefix;

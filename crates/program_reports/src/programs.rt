@@ -5,6 +5,7 @@ ghost use Rattle.name_spelling.specs.Spelling.{text_of};
 ghost use Rattle.program_reports.specs.Program.{program_line, program_text, disk_text, image_text, core_text, frame_text, names_text};
 ghost use Rattle.program_reports.specs.Program as spec;
 
+use crate::drives::{DriveRefusal, put_drive};
 use core_image::CoreFault;
 use disk_layouts::DiskFault;
 use name_spelling::put_spelled;
@@ -107,6 +108,9 @@ pub enum ProgramLine {
     /// The bytes of the image file are no image of a volume.
     Image(ImageFault),
 
+    /// The file of the disk in this drive, 0 to 3, is refused.
+    OfDrive(u8, DriveRefusal),
+
     /// The volume's directory is not sound.
     Directory(DirFault),
 }
@@ -189,6 +193,7 @@ fn put_line(text: &mut TextLine, line: ProgramLine)
         ProgramLine::Core(fault) => put_core(text, fault),
         ProgramLine::Rim(fault) => put_rim(text, fault),
         ProgramLine::Image(fault) => put_image(text, fault),
+        ProgramLine::OfDrive(drive, why) => put_drive(text, drive, why),
         ProgramLine::Directory(fault) => put_directory_fault(text, fault),
     }
 }
@@ -317,10 +322,10 @@ fn put_frame(text: &mut TextLine, frame: u8)
 }
 
 /// Puts the text of a fault of an image into an empty line.
-fn put_image(text: &mut TextLine, fault: ImageFault)
+pub(crate) fn put_image(text: &mut TextLine, fault: ImageFault)
     requires { array_vec_len text.old ≡ 0 }
     ensures text { text.new.items ≡ text.old.items ++ image_text fault }
-    ensures short { array_vec_len text.new ≤ 60 }
+    ensures short { array_vec_len text.new ≤ 40 }
 {
     match fault {
         ImageFault::NotWhole => put(text, b"? IMAGE 1 NOT WHOLE"),

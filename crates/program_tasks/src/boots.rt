@@ -22,6 +22,9 @@ pub struct DiskForm {
     /// Whether no file is written, whatever is written to the disks.
     pub is_look: bool,
 
+    /// How many seconds each file is waited for where another program holds it, 0 to 3600.
+    pub wait: usize,
+
     /// The instructions of a transfer beside those of its seek, 0 to 1000000.
     pub disk_time: u32,
 

@@ -1,7 +1,8 @@
 use Rattle.std.proofs.Common.{◌≡◌, ◌≤◌, ◌-◌, ◌*◌, List, length}
 use Rattle.hosts.specs.Event.{Event}
-use Rattle.program.specs.Changes.{AreBusy, DoesChange, seconds_of}
-use Rattle.program.specs.declared.changes.TheConstants.{TRIES}
+use Rattle.image_files.specs.Waiting.{AreBusy}
+use Rattle.image_files.specs.declared.waiting.TheConstants.{TRIES}
+use Rattle.program.specs.Changes.{DoesChange, seconds_of}
 use Rattle.program.proofs.changes.change_image.Given as goal
 
 -- each try so far found that another program holds the image

@@ -1,0 +1,41 @@
+//! When the disks of a run are saved, and what is printed where one is refused or not saved, as laws.
+ghost use Rattle.std.specs.Prelude.{◌≡◌, ℕ, true, false, Bool, Err, List, Option, Result, String};
+ghost use Rattle.std.specs.Global.{Global as Heap};
+ghost use Rattle.byte_reader.specs.Readings.{reading};
+ghost use Rattle.rk8e.specs.Packs.{PackState as Pack};
+ghost use Rattle.hosts.specs.Event.{Event};
+ghost use Rattle.outcome.specs.declared.endings.Ending.{Ending as End};
+ghost use Rattle.program_tasks.specs.declared.boots.ConsoleForm.{ConsoleForm as Form};
+ghost use Rattle.image_files.specs.Laws.{ChangesNothing};
+ghost use Rattle.image_files.specs.Saving.{IsDone};
+ghost use Rattle.image_files.specs.declared.reading.ImagePlace.{ImagePlace as Held};
+ghost use Rattle.drive_files.specs.Opening.{OpensNamed};
+ghost use Rattle.drive_files.specs.Rounds.{DoesBetween, SavedPlaces, is_due};
+ghost use Rattle.drive_files.specs.Saving.{SavesDrive, SavesDrives};
+ghost use Rattle.drive_files.specs.declared.consoles.Console.{Console};
+ghost use Rattle.drive_files.specs.declared.mounting.Places.{Places};
+ghost use Rattle.run_commands.specs.Runs8e.{RunsConsole};
+ghost use Rattle.program_laws.specs.Disks.{IsDue, NamesDrive, TriesToSave};
+
+use byte_reader::ByteReader;
+
+/// Between two parts of a run its disks are saved where that is due, and no file is changed where it is not. It is due only while the program waits for
+/// a key, after a transfer. At the end of the run they are saved too, unless a save has failed.
+pub fn saved_disks<I: ByteReader>()
+    ensures when { (form : Form) (steps : ℕ) (s : Console) (kept : SavedPlaces) → is_due form steps s kept.1 ≡ true → IsDue form steps s kept }
+    ensures due { (form : Form) (steps : ℕ) (s : Console) (kept after : SavedPlaces) (old : List Event) (result : Result Bool End) (new : List Event)
+        → DoesBetween form steps s kept after old result new → is_due form steps s kept.1 ≡ true → TriesToSave s kept.0 after.0 old }
+    ensures idle { (form : Form) (steps : ℕ) (s : Console) (kept after : SavedPlaces) (old : List Event) (result : Result Bool End) (new : List Event)
+        → DoesBetween form steps s kept after old result new → is_due form steps s kept.1 ≡ false → ChangesNothing old new }
+    ensures end { (form : Form) (first : Console) (places : Places) (before after : I) (old : List Event) (result : Result (Unit {0}) End) (new : List Event)
+        (r : RunsConsole form first places (reading I.remaining I.has_failed before after) old result new) → IsDone r.ran.save
+        → SavesDrives r.after.machine.disk r.mid r.left r.between r.saved r.kept }
+{}
+
+/// The line of a drive's disk that is refused, or not saved, has the drive after the refusal, unless that is drive 0 or memory is wanted.
+pub fn named_drives()
+    ensures opened { (drive : ℕ) (is_kept : Bool) (seconds : ℕ) (name : Option (String Heap)) (old : List Event) (ending : End) (new : List Event)
+        → OpensNamed drive is_kept seconds name old (Err ending) new → NamesDrive drive ending }
+    ensures saved { (drive : ℕ) (pack : Option Pack) (place : Option Held) (saved after : List ℕ) (old : List Event) (ending : End) (new : List Event)
+        → SavesDrive drive pack place saved after old (Err ending) new → NamesDrive drive ending }
+{}
