@@ -81,6 +81,14 @@ PLACES: dict[str, dict[str, dict[str, str]]] = {
             "let mut flags = Vec::with_capacity(alloc, CORE)?;": "one for each cell of core",
         },
     },
+    "pointer_notes/src/answers.rt": {
+        "instruction_flags": {
+            "let mut flags = Vec::with_capacity(alloc, CORE)?;": "one for each cell of core",
+        },
+        "all_answers": {
+            "let mut answers = Vec::with_capacity(alloc, CORE)?;": "one for each cell of core",
+        },
+    },
     "pointer_flow/src/handler_cells.rt": {
         "joined_flags": {
             "let mut flags = Vec::with_capacity(alloc, CORE)?;": "one for each cell of core",

@@ -20,6 +20,7 @@ STEPS = {
 LIBRARIES = {
     "history8": "no command goes back in a machine's history yet",
     "pointer_flow": "no command follows pointers yet",
+    "pointer_notes": "no command follows pointers yet",
 }
 
 
