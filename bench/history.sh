@@ -1,11 +1,12 @@
 #!/usr/bin/env bash
 # history.sh SEED: runs programs with all of their history kept, and goes back in it, in one run. They are the six of bench/cpu/, and those that
 # bench/draw_programs.py draws from the seed, which is any word. Each makes 50,000,000 steps by the processor's own run and by the history's go. Then
-# the go makes 10,000,000 steps, and from there the history goes back by one change a hundred times, looks for a break in a field that is never
-# reached, for one in the program's own field, and for a write of a cell that is never written. So each look goes through all of the history. Prints
-# the processor seconds of both runs, less those of a program that stops at once, the least of three alternate runs, and the part of the plain run's
-# rate that the go reaches. Prints the milliseconds of a change back, and the part of the go's rate that each look reaches. Last stand the megabytes
-# of memory that are taken for 10,000,000 steps and for 100,000,000. Takes palbart from Debian's packages where it is missing.
+# the go makes 10,485,759 steps, after which a copy of the machine is due. From there the history goes back by one change a hundred times, which makes
+# most of the steps since the copy before again each time. It looks for a break in a field that is never reached, for one in the program's own field,
+# and for a write of a cell that is never written. So each look goes through all of the history. Prints the processor seconds of both runs, less those
+# of a program that stops at once, the least of three alternate runs, and the part of the plain run's rate that the go reaches. Prints the milliseconds
+# of a change back, and the part of the go's rate that each look reaches. Last stand the megabytes of memory that are taken for these steps and for
+# 100,000,000. Takes palbart from Debian's packages where it is missing.
 set -eu
 top=$(cd "$(dirname "${BASH_SOURCE[0]}")/.." && pwd)
 seed=${1:?the seed that programs are drawn from}
@@ -15,7 +16,7 @@ rounds=400
 trial=$top/crates/history_trial/out/history_trial
 "$top/build/proved.py" history_trial >/dev/null
 steps=50000000
-way=10000000
+way=10485759
 
 run() { "$trial" <"$1" >/dev/null; }
 

@@ -60,9 +60,11 @@ PLACES: dict[str, dict[str, dict[str, str]]] = {
         },
     },
     "history8/src/histories.rt": {
-        "first_parts": {
+        "new": {
             "let spare = Vec::with_capacity(alloc, STRETCH)?;": "room for what is printed again, so that going back takes no memory",
-            "Err(_) => return Err(AllocError)": "a new core can fail for nothing else",
+        },
+        "new_core": {
+            "Err(_) => Err(AllocError)": "a new core can fail for nothing else",
         },
     },
     "pdp8e/src/papers.rt": {

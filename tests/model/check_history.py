@@ -2,7 +2,7 @@
 """check_history.py [--program FILE] [--programs N] [--seed S] [--shown]: N random programs go forwards and back at random places by the program
 `history_trial`, 300 where nothing is said. Keys are struck meanwhile, interrupts come, cells and switches are set, and the machine is started anew. At
 each place registers, flags, cells and what was printed must be those of the plain machine, which runs anew from the start for the changes that are left.
-So must be how runs end, and the last step at which a condition held. One program in sixty goes so far that copies of the machine are kept.
+So must be how runs end, and the last step at which a condition held. One program in thirty goes so far that copies of the machine are kept.
 
 Of 300 programs or more, one goes further, up to where older copies go, and once more with little memory. Each place to which it comes back must show
 what a run shows that ends there. The seed is the day's, where none is given: the same number is the same programs. The last line is 'N passed, M
@@ -26,9 +26,9 @@ from tests.options import patience
 from tests.tally import Tally, fault_in
 
 # So many changes lie between two copies, and so many copies are kept at most.
-SPACING, MOST = 0o400000, 1000
+SPACING, MOST = 0o1000000, 1000
 # One program in so many is a long one.
-LONG = 60
+LONG = 30
 # Cells of data in a page, and the operates and transfers of programs that run on.
 DATA, SUBROUTINE, COUNT = 0o140, 0o130, 24
 OPERATES = [0o7000, 0o7001, 0o7004, 0o7006, 0o7010, 0o7012, 0o7020, 0o7040, 0o7041, 0o7100, 0o7200, 0o7240, 0o7300, 0o7410, 0o7420, 0o7430, 0o7440, 0o7450, 0o7500, 0o7510, 0o7604]
@@ -131,7 +131,7 @@ class Script:
         random = self.random
         if random.random() < 0.5:
             self.lines.append(f"break {self.fields[1]}{self.first + DATA:04o}")
-        for _ in range(4):
+        for _ in range(2):
             near = SPACING * random.randint(1, 2) + random.choice([-2, -1, -1, 0, 0, 1, random.randint(-SPACING, 0)])
             there = [f"run break {near}", *(self.change() for _ in range(random.randrange(3))), f"step {random.randint(0, 3)}", f"run {self.condition()} 3000"]
             back = random.choice([f"back {random.choice([1, 2, near, near + 1, random.randrange(2 * SPACING)])}", f"goto {random.choice([near, SPACING, random.randrange(2 * SPACING)])}"])

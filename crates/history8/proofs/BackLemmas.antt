@@ -1,18 +1,17 @@
 -- The way back, as the code goes it: over the lists behind its slices.
-use Rattle.std.proofs.Common.{◌≡◌, ℕ, ◌-◌, List, [], ◌∷◌, length, take, drop, Option, option_map, refl, ap, sym, subst, ◌∙◌}
+use Rattle.std.proofs.Common.{◌≡◌, ℕ, ◌-◌, List, [], ◌∷◌, length, take, drop, Option, option_map, ap, sym, subst, ◌∙◌}
 use Rattle.cpu8.specs.State.{State}
 use Rattle.history8.specs.Changes.{Change}
 use Rattle.history8.specs.History.{History, state_after, characters_after, changes_to_step, without, up_to_step, new_history}
 use Rattle.history8.specs.Entries.{changes_of, changes_to, oldest, AreSome, IsPlace}
 use Rattle.history8.specs.EntrySteps.{KeepsPlaces}
 use Rattle.history8.specs.Checkpoints.{Checkpoint, AreCheckpoints, first_state}
-use Rattle.history8.specs.CheckpointSteps.{AreWithin}
 use Rattle.history8.specs.Keeping.{Keeps}
 use Rattle.history8.specs.Stops.{Condition, LeastBack}
 use Rattle.history8.specs.Steps.{IsLastPlace}
 use Rattle.history8.specs.declared.entries.Entry.{Entry}
-use Rattle.history8.proofs.CheckpointLemmas.{Earlier, are-within}
-use Rattle.history8.proofs.HistoryLemmas.{Remade, back-is, keeps-less, keeps-present, least-back, stays-whole, step-is}
+use Rattle.history8.proofs.CheckpointLemmas.{Earlier}
+use Rattle.history8.proofs.HistoryLemmas.{Remade, back-is, keeps-less, least-back, stays-whole, step-is}
 
 pub are-over : (entries slice : List Entry) (checkpoints copies : List Checkpoint) → slice ≡ entries → copies ≡ checkpoints
     → AreCheckpoints entries (first_state checkpoints) checkpoints → AreCheckpoints slice (first_state copies) copies
@@ -48,26 +47,6 @@ goes-back old new checkpoints less before now n m count target back characters f
       keeps = subst (λ i. Keeps new less now i fewer) (sym e-count) kept.keeps;
       view = ap of-first kept.same ∙ ap of-changes cut ∙ ap (λ x. without back x) view;
     }
-
--- the present, made again
-pub present-again : (entries slice : List Entry) (checkpoints copies : List Checkpoint) (before now : State) (n : ℕ) (characters : List ℕ) → slice ≡ entries → copies ≡ checkpoints
-    → Keeps entries checkpoints before n characters → now ≡ state_after (oldest n (changes_of slice)) (first_state copies) → now ≡ before
-present-again entries slice checkpoints copies before now n characters e-entries e-checkpoints keeps left =
-    keeps-present entries checkpoints before now n characters (length (characters_after (oldest n (changes_of entries)) (first_state checkpoints))) keeps
-    (record {
-      left = left ∙ ap (λ es. state_after (oldest n (changes_of es)) (first_state copies)) e-entries
-          ∙ ap (λ cs. state_after (oldest n (changes_of entries)) (first_state cs)) e-checkpoints;
-      printed = refl;
-    })
-
-pub keeps-again : (entries : List Entry) (checkpoints : List Checkpoint) (before now : State) (n : ℕ) (characters : List ℕ) → Keeps entries checkpoints before n characters → now ≡ before
-    → Keeps entries checkpoints now n characters
-keeps-again entries checkpoints before now n characters keeps e = subst (λ s. Keeps entries checkpoints s n characters) (sym e) keeps
-
-pub within-over : (entries : List Entry) (checkpoints copies : List Checkpoint) (machine : State) (n : ℕ) (characters : List ℕ) → copies ≡ checkpoints
-    → Keeps entries checkpoints machine n characters → AreWithin n copies
-within-over entries checkpoints copies machine n characters e keeps =
-    subst (λ cs. AreWithin n cs) (sym e) (are-within entries (first_state checkpoints) checkpoints n keeps.are keeps.counted)
 
 -- the last place, as a number of changes back
 pub back-over : (condition : Condition) (entries slice : List Entry) (checkpoints copies : List Checkpoint) (machine : State) (n : ℕ) (characters : List ℕ) (h : History) (found answer : Option ℕ)

@@ -17,9 +17,8 @@ use Rattle.history8.specs.declared.entries.Entry.{Entry}
 use Rattle.history8.specs.declared.entries.Entry.TheVariants as kept
 use Rattle.history8.proofs.EntryLemmas.{oldest-at, oldest-all, oldest-length, steps-length}
 use Rattle.history8.proofs.PlaceLemmas.{place-is, place-count}
-use Rattle.history8.proofs.StateLemmas.{after-steps, printed-steps, few-characters}
+use Rattle.history8.proofs.StateLemmas.{after-step, after-steps, printed-one, printed-steps, few-characters}
 use Rattle.history8.proofs.CheckpointLemmas.{Earlier, are-added, are-at, are-kept, one-kept}
-use Rattle.history8.proofs.ReplayLemmas.{after-step, printed-one}
 
 -- ## The beginning
 
@@ -222,11 +221,6 @@ back-is changes n count target back len e is =
     ap (λ i. drop i changes) left ∙ drop_min back changes
 
 -- the present, made again
-pub keeps-present : (entries : List Entry) (checkpoints : List Checkpoint) (before now : State) (n : ℕ) (characters : List ℕ) (printed : ℕ)
-    → Keeps entries checkpoints before n characters → Remade entries (first_state checkpoints) n now printed → now ≡ before
-keeps-present entries checkpoints before now n characters printed keeps made =
-    made.left ∙ ap (λ xs. state_after xs (first_state checkpoints)) (oldest-all n (changes_of entries) keeps.counted) ∙ sym keeps.left
-
 -- nothing is gone back
 pub stays-whole : (entries : List Entry) (n back : ℕ) (first : State) → n ≡ length (changes_of entries) → n - back ≡ n → record { first = first; changes = changes_of entries } ≡ without back (record { first = first; changes = changes_of entries })
 stays-whole entries n back first counted e =

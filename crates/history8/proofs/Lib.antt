@@ -8,6 +8,7 @@ pub mod ReplayLemmas
 pub mod HaltLemmas
 pub mod SearchLemmas
 pub mod RunLemmas
+pub mod WatchLemmas
 pub mod HistoryLemmas
 pub mod CopyLemmas
 pub mod StoreLemmas

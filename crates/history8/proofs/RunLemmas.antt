@@ -1,5 +1,5 @@
 -- Runs up to where something ends them.
-use Rattle.std.proofs.Common.{◌≡◌, ℕ, zero, suc, ◌+◌, ◌-◌, ◌<◌, ◌≤◌, Bool, true, false, not, ◌&&◌, if◌then◌else◌, List, Option, Some, None, unwrap_or, IsSome, refl, ap, sym, subst, ◌∙◌, arith}
+use Rattle.std.proofs.Common.{◌≡◌, ℕ, zero, suc, ◌+◌, ◌-◌, ◌<◌, ◌≤◌, Bool, true, false, not, ◌&&◌, if◌then◌else◌, List, Option, Some, None, refl, ap, sym, subst, ◌∙◌, arith}
 use Rattle.cpu8.specs.State.{State, next_cell, printer_done}
 use Rattle.cpu8.specs.Laws.{runs_on}
 use Rattle.cpu8.specs.Go as go
@@ -11,7 +11,7 @@ use Rattle.cpu8.proofs.StepLemmas.{step-keeps}
 use Rattle.history8.specs.Changes.{ready}
 use Rattle.history8.specs.History.{History, machine_of, steps_before, with_steps}
 use Rattle.history8.specs.Stops.{Condition, stop_after, ending, EndsRun, IsRunTo, at_break}
-use Rattle.history8.specs.Steps.{EndsPart, IsPartOfRun, is_limit, end_after, end_of}
+use Rattle.history8.specs.Steps.{EndsPart, IsPartOfRun, MakesSteps, RunsSteps, holds_after, is_limit, end_after}
 use Rattle.history8.specs.declared.outcomes.End.{End}
 use Rattle.history8.specs.declared.outcomes.End.TheVariants as ends
 use Rattle.history8.proofs.EntryLemmas.{steps-more}
@@ -143,29 +143,43 @@ run-stopped quick condition s most stopped = record {
   last = stopped-first s.running stopped;
 }
 
--- ## A step
+-- ## A part of a run
 
-ends-step : (runs met : Bool) → EndsPart (let e : Option End = if not runs then Some ends.Stopped else if met then Some ends.Met else None in e) 1 (end_after runs met)
-ends-step true true = refl
-ends-step true false = (refl, omega arith)
-ends-step false met = refl
+ends-part : (runs met : Bool) (steps : ℕ) → 0 < steps
+    → EndsPart (let e : Option End = if not runs then Some ends.Stopped else if met then Some ends.Met else None in e) steps (end_after runs met)
+ends-part true true steps some = refl
+ends-part true false steps some = (refl, some)
+ends-part false met steps some = refl
 
-ending-one : (quick : Bool) (condition : Condition) (s : State)
-    → ending quick condition s 1 ≡ stop_after condition (ready quick s) (printing_step quick s).1 (printing_step quick s).0
-unfolding after
-ending-one quick condition s = refl
+no-end : (runs met : Bool) → runs ≡ true → met ≡ false → (let e : Option End = if not runs then Some ends.Stopped else if met then Some ends.Met else None in e) ≡ None
+no-end true true runs none = cc
+no-end true false runs none = refl
+no-end false met runs none = cc
 
-pub part-step : (quick : Bool) (condition : Condition) (s now : State) (n : ℕ) (met : Bool) → 0 < n → now ≡ (printing_step quick s).0
-    → met ≡ condition (ready quick s) (printing_step quick s).1 now → IsPartOfRun quick condition s n 1 (end_after now.running met)
-part-step quick condition s now n met some state is = record {
-  within = omega (arith, some);
-  least = λ m low high. absurd (omega (arith, low, high));
-  last = subst (λ o. EndsPart o 1 (end_after now.running met))
-      (ap (λ b. let e : Option End = if not now.running then Some ends.Stopped else if b then Some ends.Met else None in e) is
-      ∙ ap (λ x. stop_after condition (ready quick s) (printing_step quick s).1 x) state
-      ∙ sym (ending-one quick condition s))
-      (ends-step now.running met);
-}
+part-last : (quick : Bool) (condition : Condition) (n : ℕ) (s now : State) (steps : ℕ) (is_met : Bool) → MakesSteps condition quick n s now steps is_met
+    → EndsPart (ending quick condition s steps) steps (end_after now.running is_met)
+part-last quick condition n s now zero is_met made = absurd (omega (arith, made.made.some))
+part-last quick condition n s now (suc k) is_met made =
+    subst (λ x. EndsPart (ending quick condition s (suc k)) (suc k) (end_after x.running is_met)) (sym made.made.state)
+    (subst (λ b. EndsPart (ending quick condition s (suc k)) (suc k) (end_after (after quick (suc k) s).running b)) (sym (made.last k refl))
+    (ends-part (after quick (suc k) s).running (holds_after condition quick s k) (suc k) (omega arith)))
+
+part-least : (quick : Bool) (condition : Condition) (n : ℕ) (s now : State) (steps : ℕ) → RunsSteps condition quick n s now steps
+    → (m : ℕ) → 0 < m → m < steps → ending quick condition s m ≡ None
+part-least quick condition n s now steps made zero some below = absurd (omega (arith, some))
+part-least quick condition n s now steps made (suc k) some below =
+    let on = made.on k below in no-end (after quick (suc k) s).running (holds_after condition quick s k) on.0 on.1
+
+pub part-made : (quick : Bool) (condition : Condition) (s t now : State) (n most steps : ℕ) (runs is_met : Bool) (end : End) → s ≡ t → n ≤ most
+    → MakesSteps condition quick n s now steps is_met → runs ≡ now.running → end ≡ end_after runs is_met → IsPartOfRun quick condition t most steps end
+part-made quick condition s t now n most steps runs is_met end same less made e-runs e =
+    subst (λ x. IsPartOfRun quick condition t most steps x) (ap (λ b. end_after b is_met) (sym e-runs) ∙ sym e)
+    (subst (λ x. IsPartOfRun quick condition x most steps (end_after now.running is_met)) same
+    (record {
+      within = omega (arith, made.made.within, less);
+      least = part-least quick condition n s now steps made.made;
+      last = part-last quick condition n s now steps is_met made;
+    }))
 
 pub part-none : (quick : Bool) (condition : Condition) (s : State) (n : ℕ) → IsPartOfRun quick condition s n 0 ends.Memory
 part-none quick condition s n = record {
@@ -201,29 +215,8 @@ reason-none breaks before (Ran printed) now runs goes none = ahead-none now.runn
 reason-none breaks before Halted now runs goes none = cc
 reason-none breaks before (Unassigned word) now runs goes none = cc
 
-ahead-ends : (runs ahead : Bool) (why : Why) (steps : ℕ) → runs ≡ true → 0 < steps → why ≡ unwrap_or (let w : Option Why = if ahead then Some Why.Break else None in w) Why.Limit
-    → EndsPart (let e : Option End = if not runs then Some ends.Stopped else if ahead then Some ends.Met else None in e) steps (end_of why)
-ahead-ends true true why steps runs some e = subst (λ w. EndsPart (Some ends.Met) steps (end_of w)) (sym e) refl
-ahead-ends true false why steps runs some e = subst (λ w. EndsPart None steps (end_of w)) (sym e) (refl, some)
-ahead-ends false ahead why steps runs some e = cc
-
-halt-ends : (runs met : Bool) (steps : ℕ) → runs ≡ false
-    → EndsPart (let e : Option End = if not runs then Some ends.Stopped else if met then Some ends.Met else None in e) steps ends.Stopped
-halt-ends true met steps runs = cc
-halt-ends false met steps runs = refl
-
-reason-ends : (breaks : List Bool) (before : State) (did : Stepped) (now : State) (why : Why) (steps : ℕ) → now.running ≡ runs_on did → is_stop did ≡ false → 0 < steps
-    → why ≡ unwrap_or (reason breaks did now) Why.Limit → EndsPart (stop_after (at_break breaks) before did now) steps (end_of why)
-reason-ends breaks before Stopped now why steps runs goes some e = cc
-reason-ends breaks before Interrupted now why steps runs goes some e = ahead-ends now.running (is_break breaks (next_cell now)) why steps runs some e
-reason-ends breaks before (Ran printed) now why steps runs goes some e = ahead-ends now.running (is_break breaks (next_cell now)) why steps runs some e
-reason-ends breaks before Halted now why steps runs goes some e =
-    subst (λ w. EndsPart (stop_after (at_break breaks) before Halted now) steps (end_of w)) (sym e) (halt-ends now.running (is_break breaks (next_cell now)) steps runs)
-reason-ends breaks before (Unassigned word) now why steps runs goes some e =
-    subst (λ w. EndsPart (stop_after (at_break breaks) before (Unassigned word) now) steps (end_of w)) (sym e) (halt-ends now.running (is_break breaks (next_cell now)) steps runs)
-
 -- no reason up to a step, by those of the go
-go-none : (quick : Bool) (breaks : List Bool) (s : State) (steps : ℕ) → s.running ≡ true → ((m : ℕ) → m < steps → go.ending quick breaks s m ≡ None)
+pub go-none : (quick : Bool) (breaks : List Bool) (s : State) (steps : ℕ) → s.running ≡ true → ((m : ℕ) → m < steps → go.ending quick breaks s m ≡ None)
     → (m : ℕ) → m < steps → ending quick (at_break breaks) s m ≡ None
 unfolding after go.ending
 go-none quick breaks s steps runs none zero below = first-runs s.running runs
@@ -232,55 +225,6 @@ go-none quick breaks s steps runs none (suc m) below =
     let here = still-runs quick (at_break breaks) s m earlier in
     reason-none breaks (ready quick (after quick m s)) (answer quick m s) (after quick (suc m) s) (on-by quick (after quick m s)) (goes-on quick (after quick m s) here)
     (none (suc m) below)
-
-go-last : (quick : Bool) (breaks : List Bool) (s : State) (steps : ℕ) (why : Why) → s.running ≡ true → ((m : ℕ) → m < steps → go.ending quick breaks s m ≡ None)
-    → 0 < steps → why ≡ unwrap_or (go.ending quick breaks s steps) Why.Limit → EndsPart (ending quick (at_break breaks) s steps) steps (end_of why)
-unfolding after go.ending
-go-last quick breaks s zero why runs none some e = absurd (omega (arith, some))
-go-last quick breaks s (suc m) why runs none some e =
-    let earlier = go-none quick breaks s (suc m) runs none m (omega arith) in
-    let here = still-runs quick (at_break breaks) s m earlier in
-    reason-ends breaks (ready quick (after quick m s)) (answer quick m s) (after quick (suc m) s) why (suc m) (on-by quick (after quick m s))
-    (goes-on quick (after quick m s) here) some e
-
-why-none : (b : Bool) → b ≡ true → (let w : Option Why = if b then None else Some Why.Halt in w) ≡ None
-why-none true e = refl
-why-none false e = cc
-
-go-first : (quick : Bool) (breaks : List Bool) (s : State) → s.running ≡ true → go.ending quick breaks s 0 ≡ None
-unfolding go.ending
-go-first quick breaks s runs = why-none s.running runs
-
-some-none : (o : Option Why) → o ≡ None → IsSome o → ⊥
-some-none None e some = cc
-some-none (Some why) e some = cc
-
-go-some : (quick : Bool) (breaks : List Bool) (s : State) (n steps : ℕ) (why : Why) → s.running ≡ true → 0 < n → IsGo quick breaks s n steps why → 0 < steps
-go-some quick breaks s n zero why runs some is = absurd (some-none (go.ending quick breaks s 0) (go-first quick breaks s runs) (is.last some))
-go-some quick breaks s n (suc steps) why runs some is = omega arith
-
-pub part-go : (quick : Bool) (breaks : List Bool) (s : State) (n steps : ℕ) (why : Why) → s.running ≡ true → 0 < n → IsGo quick breaks s n steps why
-    → IsPartOfRun quick (at_break breaks) s n steps (end_of why)
-part-go quick breaks s n steps why runs some is = record {
-  within = is.within;
-  least = λ m low high. go-none quick breaks s steps runs is.least m high;
-  last = go-last quick breaks s steps why runs is.least (go-some quick breaks s n steps why runs some is) is.reason;
-}
-
-pub part-within : (quick : Bool) (condition : Condition) (s : State) (n most steps : ℕ) (end : End) → n ≤ most → IsPartOfRun quick condition s n steps end
-    → IsPartOfRun quick condition s most steps end
-part-within quick condition s n most steps end less part = record {
-  within = omega (arith, part.within, less);
-  least = part.least;
-  last = part.last;
-}
-
-pub part-gone : (quick : Bool) (breaks : List Bool) (s t : State) (n most steps : ℕ) (why : Why) (end : End) → s ≡ t → s.running ≡ true → 0 < n → n ≤ most
-    → IsGo quick breaks s n steps why → end ≡ end_of why → IsPartOfRun quick (at_break breaks) t most steps end
-part-gone quick breaks s t n most steps why end same runs some less is e =
-    subst (λ x. IsPartOfRun quick (at_break breaks) t most steps x) (sym e)
-    (subst (λ x. IsPartOfRun quick (at_break breaks) x most steps (end_of why)) same
-    (part-within quick (at_break breaks) s n most steps (end_of why) less (part-go quick breaks s n steps why runs some is)))
 
 -- ## Histories of steps
 

@@ -70,3 +70,16 @@ few-characters (Key character ∷ earlier) first = omega (arith, few-characters 
 few-characters (Deposit cell word ∷ earlier) first = omega (arith, few-characters earlier first, ap (λ xs. length xs) (append-nil (characters_after earlier first)))
 few-characters (Switches word ∷ earlier) first = omega (arith, few-characters earlier first, ap (λ xs. length xs) (append-nil (characters_after earlier first)))
 few-characters (Start cell ∷ earlier) first = omega (arith, few-characters earlier first, ap (λ xs. length xs) (append-nil (characters_after earlier first)))
+
+-- ## A step
+
+after-one : (quick : Bool) (s : State) → after quick 1 s ≡ (printing_step quick s).0
+unfolding after
+after-one quick s = refl
+
+pub printed-one : (quick : Bool) (s : State) → characters_of quick 1 s ≡ character_of (printing_step quick s).1
+unfolding after characters_of
+printed-one quick s = refl
+
+pub after-step : (quick : Bool) (s now : State) → now ≡ (printing_step quick s).0 → now ≡ after quick 1 s
+after-step quick s now e = e ∙ sym (after-one quick s)

@@ -1,7 +1,12 @@
 -- What becomes of the copies that a history keeps, for private clauses.
 use Rattle.std.specs.Prelude.{◌≡◌, ◌⊎◌, ℕ, ◌<◌, ◌≤◌, List, [], ◌∷◌, ◌++◌, length, map}
 use Rattle.std.specs.List.{remove}
+use Rattle.cpu8.specs.State.{State}
 use Rattle.history8.specs.Checkpoints.{Checkpoint}
+
+-- that of a machine before all changes
+abbrev pub first_checkpoint : State → Checkpoint
+first_checkpoint s = record { count = 0; entry = 0; steps = 0; characters = 0; state = s }
 
 -- all of them are before no more than so many changes
 abbrev pub AreWithin : ℕ → List Checkpoint → Type 0

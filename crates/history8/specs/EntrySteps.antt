@@ -1,8 +1,6 @@
 -- What becomes of the entries of a history, and how their changes are made again, for private clauses.
-use Rattle.std.specs.Prelude.{◌≡◌, ℕ, zero, suc, ◌+◌, ◌<◌, ◌≤◌, Bool, true, false, List, [], ◌∷◌, ◌++◌, length, Option, Some, None}
-use Rattle.cpu8.specs.State.{State, next_cell}
-use Rattle.cpu8.specs.Go.{is_break}
-use Rattle.history8.specs.Changes.{Change, Step, Key, Deposit, Switches, Start}
+use Rattle.std.specs.Prelude.{◌≡◌, ℕ, zero, suc, ◌+◌, ◌≤◌, Bool, List, [], ◌∷◌, ◌++◌, length, Option, Some, None}
+use Rattle.cpu8.specs.State.{State}
 use Rattle.history8.specs.History.{state_after, characters_after}
 use Rattle.history8.specs.Entries.{HasMore, IsFixedPlace, changes_of, oldest}
 use Rattle.history8.specs.declared.entries.Entry.{Entry}
@@ -32,21 +30,3 @@ MakesAgain entries from to before now characters =
     → (now ≡ state_after (oldest to (changes_of entries)) first)
     × (length (characters_after (oldest to (changes_of entries)) first)
     ≡ length (characters_after (oldest from (changes_of entries)) first) + characters)
-
--- between the two it came to no break
-abbrev pub MeetsNoBreak : List Bool → List Entry → ℕ → ℕ → State → Type 0
-MeetsNoBreak breaks entries from to before =
-    (first : State) → before ≡ state_after (oldest from (changes_of entries)) first
-    → (k : ℕ) → from < k → k < to → is_break breaks (next_cell (state_after (oldest k (changes_of entries)) first)) ≡ false
-
--- whether the newest change is a step
-abbrev pub ends_in_step : List Change → Bool
-ends_in_step [] = false
-ends_in_step (Step quick ∷ earlier) = true
-ends_in_step (Key character ∷ earlier) = false
-ends_in_step (Deposit cell word ∷ earlier) = false
-ends_in_step (Switches word ∷ earlier) = false
-ends_in_step (Start cell ∷ earlier) = false
-
-abbrev pub IsLastStep : List Entry → ℕ → Bool → Type 0
-IsLastStep entries to is_step = is_step ≡ ends_in_step (oldest to (changes_of entries))

@@ -1,8 +1,8 @@
 -- How far searches and runs of a history have come. Private clauses alone cite this.
-use Rattle.std.specs.Prelude.{◌≡◌, ℕ, ◌+◌, ◌-◌, ◌<◌, ◌≤◌, Bool, true, false, if◌then◌else◌, List, Option, Some, None}
+use Rattle.std.specs.Prelude.{◌≡◌, ℕ, suc, ◌+◌, ◌-◌, ◌<◌, ◌≤◌, Bool, true, false, if◌then◌else◌, List, Option, Some, None}
 use Rattle.cpu8.specs.State.{State}
-use Rattle.cpu8.specs.declared.outcomes.Why.{Why}
-use Rattle.cpu8.specs.declared.outcomes.Why.TheVariants as why
+use Rattle.cpu8.specs.Go.{after, answer}
+use Rattle.history8.specs.Changes.{ready}
 use Rattle.history8.specs.History.{state_after}
 use Rattle.history8.specs.Stops.{Condition, ending, holds_of}
 use Rattle.history8.specs.Entries.{changes_of, oldest}
@@ -34,11 +34,27 @@ abbrev pub IsLastOf : Condition → List Entry → ℕ → ℕ → State → Opt
 IsLastOf condition entries from end before found =
     (first : State) → before ≡ state_after (oldest from (changes_of entries)) first → IsGreatest condition entries first from end found
 
--- one change was made, and a condition holds of it or not
-abbrev pub MakesNext : Condition → List Entry → ℕ → State → State → Bool → Type 0
-MakesNext condition entries from before now is_met =
+-- More of the changes were made. The condition holds after the last of them or not, and after none before.
+abbrev pub FindsNext : Condition → List Entry → ℕ → ℕ → State → Bool → Type 0
+FindsNext condition entries from to before is_met =
     (first : State) → before ≡ state_after (oldest from (changes_of entries)) first
-    → (now ≡ state_after (oldest (from + 1) (changes_of entries)) first) × (is_met ≡ holds_at condition entries first (from + 1))
+    → ((k : ℕ) → from < k → k < to → holds_at condition entries first k ≡ false) × (is_met ≡ holds_at condition entries first to)
+
+-- whether a condition holds of the step after so many
+abbrev pub holds_after : Condition → Bool → State → ℕ → Bool
+holds_after condition quick s k = condition (ready quick (after quick k s)) (answer quick k s) (after quick (suc k) s)
+
+-- Some steps were made, at most so many. After each but the last the machine runs, and the condition doesn't hold.
+pub record RunsSteps (condition : Condition) (quick : Bool) (most : ℕ) (s now : State) (steps : ℕ) : Type 0 where
+  pub some : 0 < steps
+  pub within : steps ≤ most
+  pub state : now ≡ after quick steps s
+  pub on : (k : ℕ) → suc k < steps → ((after quick (suc k) s).running ≡ true) × (holds_after condition quick s k ≡ false)
+
+-- the same, and whether it holds after the last
+pub record MakesSteps (condition : Condition) (quick : Bool) (most : ℕ) (s now : State) (steps : ℕ) (is_met : Bool) : Type 0 where
+  pub made : RunsSteps condition quick most s now steps
+  pub last : (k : ℕ) → suc k ≡ steps → is_met ≡ holds_after condition quick s k
 
 -- A part of a run of at most n steps: `Limit` says that nothing ends it yet.
 abbrev pub EndsPart : Option End → ℕ → End → Type 0
@@ -55,13 +71,6 @@ pub record IsPartOfRun (quick : Bool) (condition : Condition) (s : State) (n ste
 -- why a run ends after a step: the machine runs on or not, and its condition holds or not
 abbrev pub end_after : Bool → Bool → End
 end_after runs is_met = if runs then (if is_met then ends.Met else ends.Limit) else ends.Stopped
-
--- why it ends as a go of the processor does
-abbrev pub end_of : Why → End
-end_of why.Halt = ends.Stopped
-end_of why.Unassigned = ends.Stopped
-end_of why.Break = ends.Met
-end_of why.Limit = ends.Limit
 
 abbrev pub is_limit : End → Bool
 is_limit ends.Stopped = false

@@ -1,7 +1,7 @@
 //! Copies of a machine, kept on the way of its history.
 
-ghost use Rattle.std.specs.Prelude.{◌≡◌, ◌⊎◌, ℕ, ◌+◌, ◌<◌, ◌≤◌, length, slice_index, take, IfSome, MatchOption, vec_len, vec_capacity};
-ghost use Rattle.history8.specs.CheckpointSteps.{KeepsCheckpoint, LosesOne, counts_of};
+ghost use Rattle.std.specs.Prelude.{◌≡◌, ◌⊎◌, ℕ, ◌+◌, ◌<◌, ◌≤◌, ◌∷◌, [], length, slice_index, take, IfSome, MatchOption, vec_len, vec_capacity};
+ghost use Rattle.history8.specs.CheckpointSteps.{KeepsCheckpoint, LosesOne, counts_of, first_checkpoint};
 
 use crate::replays::Place;
 use core_load::Core;
@@ -39,7 +39,7 @@ impl Model for Checkpoint {
 pub(crate) const MOST: usize = 1000;
 
 /// So many changes are between a checkpoint and the next one.
-pub(crate) const SPACING: usize = 0o400000;
+pub(crate) const SPACING: usize = 0o1000000;
 
 /// The newest checkpoints that stay when an older one has to go.
 const NEWEST: usize = 64;
@@ -89,6 +89,36 @@ pub(crate) fn copy_of(core: Core, machine: &Machine, place: Place, characters: u
         registers: machine.registers(),
     }
 }
+
+/// The checkpoint of a machine before all changes, in this core.
+pub(crate) fn first_of(core: Core, machine: &Machine) -> Checkpoint
+    ensures { result ≡ first_checkpoint machine.now }
+{
+    copy_of(core, machine, START, 0)
+}
+
+/// All checkpoints go, and that of a machine before all changes takes the place of the first.
+pub(crate) fn keep_first(checkpoints: &mut Vec<Checkpoint>, machine: &Machine)
+    requires some { 0 < vec_len checkpoints.old }
+    ensures items { checkpoints.new.items ≡ first_checkpoint machine.now ∷ [] }
+    ensures capacity { vec_capacity checkpoints.new ≡ vec_capacity checkpoints.old }
+{
+    let Checkpoint {
+        place: _,
+        characters: _,
+        core,
+        registers: _,
+    } = checkpoints.remove(0);
+    checkpoints.clear();
+    checkpoints.push_reserved(first_of(core, machine));
+}
+
+/// The place before all changes.
+const START: Place = Place {
+    count: 0,
+    entry: 0,
+    steps: 0,
+};
 
 /// Core for one checkpoint more, and a place for it: new, or that of an older one, which goes.
 fn core_for_checkpoint(alloc: Global, checkpoints: &mut Vec<Checkpoint>) -> Option<Core>

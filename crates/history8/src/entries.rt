@@ -1,6 +1,6 @@
 //! Changes of a machine, as a history keeps them.
 
-ghost use Rattle.std.specs.Prelude.{◌≡◌, true, [], length};
+ghost use Rattle.std.specs.Prelude.{◌≡◌, ◌<◌, ◌++◌, true, [], length, vec_len, vec_capacity};
 ghost use Rattle.cpu8.specs.Go.{printing_step, character_of};
 ghost use Rattle.history8.specs.Changes.{ready};
 ghost use Rattle.history8.specs.History.{state_after, step_count};
@@ -84,5 +84,20 @@ pub(crate) fn character_count(did: Stepped) -> usize
     match did {
         Stepped::Ran { printed: Some(_) } => 1,
         _ => 0,
+    }
+}
+
+/// Adds the character that a step printed, if it printed one, for which there is room.
+#[inline]
+pub(crate) fn push_character(characters: &mut Vec<u8>, did: Stepped)
+    requires { vec_len characters.old < vec_capacity characters.old }
+    ensures items { characters.new.items ≡ characters.old.items ++ character_of did }
+    ensures capacity { vec_capacity characters.new ≡ vec_capacity characters.old }
+{
+    if let Stepped::Ran {
+        printed: Some(character),
+    } = did
+    {
+        characters.push_reserved(character);
     }
 }

@@ -1,5 +1,7 @@
-ghost use Rattle.std.specs.Prelude.{◌≡◌, ◌+◌, ◌-◌, ◌^◌, ◌<◌, ◌≤◌, ◌∷◌, [], true, length, option_map, slice_index, vec_capacity, IfOk, OnOk, OnErr, MatchResult};
-ghost use Rattle.cpu8.specs.State.{State};
+ghost use Rattle.std.specs.Prelude.{◌≡◌, ◌+◌, ◌-◌, ◌^◌, ◌<◌, ◌≤◌, ◌∷◌, [], true, length, option_map, slice_index, vec_capacity, IfOk, OnOk, OnErr};
+ghost use Rattle.word12.specs.declared.sizes.TheConstants.{CORE};
+ghost use Rattle.core_load.specs.Core.{zeros};
+ghost use Rattle.cpu8.specs.State.{State, new_machine};
 ghost use Rattle.cpu8.specs.Go.{printing_step};
 ghost use Rattle.history8.specs.Changes.{Key, Deposit, Switches, Start, Step};
 ghost use Rattle.history8.specs.History as past;
@@ -13,9 +15,10 @@ use crate::checkpoints::{self, Checkpoint, MOST, SPACING, forget_later};
 use crate::entries::{Entry, make_change, make_step};
 use crate::journals::Journal;
 use crate::lists::{changes_to_step, end_of, steps_in};
-use crate::replays::{Place, Replay, STRETCH, make_again};
+use crate::replays::{Replay, STRETCH, make_again};
 use crate::searches;
 use crate::stops::Stop;
+use crate::watches::{Breaks, Each, Watch};
 use core_load::Core;
 use cpu8::{Machine, Stepped};
 use std::alloc::{AllocError, Global};
@@ -35,6 +38,8 @@ pub struct History {
     due: usize,
     /// Room for what steps print that are made again.
     spare: Vec<u8>,
+    /// Makes changes again in search of a place.
+    second: Machine,
 }
 
 impl Model for History {
@@ -58,21 +63,35 @@ impl Model for History {
 }
 
 impl History {
-    /// A history of no change of this machine. Where memory is refused the machine is given back.
-    pub fn new(alloc: Global, machine: Machine) -> Result<History, Machine>
-        ensures { MatchResult result (λ h. h ≡ new_history machine) (λ m. m ≡ machine) }
+    /// A history of no change, of a machine with no words that stands stopped.
+    pub fn new(alloc: Global) -> Result<History, AllocError>
+        ensures { IfOk result (λ h. h ≡ new_history (new_machine (zeros CORE))) }
     {
-        match first_parts(alloc, &machine) {
-            Ok((checkpoints, spare)) => Ok(History {
-                alloc,
-                machine,
-                journal: Journal::new(alloc),
-                checkpoints,
-                due: SPACING,
-                spare,
-            }),
-            Err(_) => Err(machine),
-        }
+        let machine = Machine::new(new_core(alloc)?);
+        let second = Machine::new(new_core(alloc)?);
+        let mut checkpoints = Vec::with_capacity(alloc, MOST)?;
+        let spare = Vec::with_capacity(alloc, STRETCH)?;
+        let core = new_core(alloc)?;
+        checkpoints.push_reserved(checkpoints::first_of(core, &machine));
+        Ok(History {
+            alloc,
+            machine,
+            journal: Journal::new(alloc),
+            checkpoints,
+            due: SPACING,
+            spare,
+            second,
+        })
+    }
+
+    /// Forgets all changes, and goes on with this machine. It takes no memory.
+    pub fn begin(&mut self, machine: Machine)
+        ensures { self.new ≡ new_history machine }
+    {
+        checkpoints::keep_first(&mut self.checkpoints, &machine);
+        self.journal = Journal::new(self.alloc);
+        self.due = SPACING;
+        self.machine = machine;
     }
 
     /// The machine as it is now.
@@ -120,7 +139,7 @@ impl History {
         ensures answer { IfOk result (λ did. did ≡ (printing_step quick (machine_of self.old)).1) }
         ensures err { OnErr result (self.new ≡ self.old) }
     {
-        self.journal.make_room(1)?;
+        self.journal.reserve(1)?;
         let did = make_step(&mut self.machine, quick);
         let again = did;
         self.journal.note_step(quick, did);
@@ -206,21 +225,7 @@ impl History {
         ensures history { self.new ≡ self.old }
         ensures last { LeastBack (S.condition stop.now) self.old result }
     {
-        let found = searches::last_place(
-            &mut self.machine,
-            &self.checkpoints,
-            &self.journal.entries,
-            self.journal.count,
-            stop,
-        );
-        let _present = remake_machine(
-            &mut self.machine,
-            &self.checkpoints,
-            &self.journal.entries,
-            self.journal.count,
-            &mut self.spare,
-        );
-        changes_since(self.journal.count, found)
+        self.last(&Each { stop })
     }
 
     /// The same of the last step that came to a break. It takes the time of a go.
@@ -228,22 +233,7 @@ impl History {
         ensures history { self.new ≡ self.old }
         ensures last { LeastBack (at_break breaks.now) self.old result }
     {
-        let found = searches::last_break_place(
-            &mut self.machine,
-            &self.checkpoints,
-            &self.journal.entries,
-            self.journal.count,
-            breaks,
-            &mut self.spare,
-        );
-        let _present = remake_machine(
-            &mut self.machine,
-            &self.checkpoints,
-            &self.journal.entries,
-            self.journal.count,
-            &mut self.spare,
-        );
-        changes_since(self.journal.count, found)
+        self.last(&Breaks { flags: breaks })
     }
 }
 
@@ -255,12 +245,28 @@ impl History {
         ensures ok { OnOk result (self.new ≡ record self.old { changes = with_entry entry self.old.changes }) }
         ensures err { OnErr result (self.new ≡ self.old) }
     {
-        self.journal.make_room(0)?;
+        self.journal.reserve(0)?;
         let again = entry;
         make_change(&mut self.machine, entry);
         self.journal.note_change(again);
         self.keep_checkpoint();
         Ok(())
+    }
+
+    /// How many changes there are to go back to the last step of which a condition holds.
+    fn last<W: Watch>(&mut self, watch: &W) -> Option<usize>
+        ensures history { self.new ≡ self.old }
+        ensures last { LeastBack (W.condition watch.now) self.old result }
+    {
+        let found = searches::last_place(
+            &mut self.second,
+            &self.checkpoints,
+            &self.journal.entries,
+            self.journal.count,
+            watch,
+            &mut self.spare,
+        );
+        changes_since(self.journal.count, found)
     }
 
     /// Keeps a checkpoint where one is due.
@@ -306,30 +312,17 @@ fn remake_machine(
     Replay {
         place: replay.place,
         characters: newest.characters + replay.characters,
-        is_step: replay.is_step,
     }
 }
 
-/// What a history of no change has: one checkpoint, and room for what steps print that are made again.
-fn first_parts(alloc: Global, machine: &Machine) -> Result<(Vec<Checkpoint>, Vec<u8>), AllocError>
-    ensures checkpoints { IfOk result (λ parts. parts.0.items
-        ≡ record { count = 0; entry = 0; steps = 0; characters = 0; state = machine.now } ∷ []) }
-    ensures most { IfOk result (λ parts. MOST ≤ vec_capacity parts.0) }
-    ensures room { IfOk result (λ parts. STRETCH ≤ vec_capacity parts.1) }
+/// Core with no words.
+fn new_core(alloc: Global) -> Result<Core, AllocError>
+    ensures { IfOk result (λ core. core ≡ zeros CORE) }
 {
-    let mut checkpoints = Vec::with_capacity(alloc, MOST)?;
-    let spare = Vec::with_capacity(alloc, STRETCH)?;
-    let core = match Core::new(alloc) {
-        Ok(core) => core,
-        Err(_) => return Err(AllocError),
-    };
-    let place = Place {
-        count: 0,
-        entry: 0,
-        steps: 0,
-    };
-    checkpoints.push_reserved(checkpoints::copy_of(core, machine, place, 0));
-    Ok((checkpoints, spare))
+    match Core::new(alloc) {
+        Ok(core) => Ok(core),
+        Err(_) => Err(AllocError),
+    }
 }
 
 /// After how many changes the next checkpoint is due.

@@ -7,7 +7,7 @@ ghost use Rattle.history8.specs.History.{steps_before};
 ghost use Rattle.history8.specs.Entries.{AreSome, IsPlace, changes_of, changes_to, is_no_step, with_entry};
 ghost use Rattle.history8.specs.EntrySteps.{KeepsPlaces};
 
-use crate::entries::Entry;
+use crate::entries::{Entry, push_character};
 use crate::lists::{add_steps, cut_entries};
 use crate::replays::Place;
 use cpu8::Stepped;
@@ -38,7 +38,7 @@ impl Journal {
     }
 
     /// Makes room for one entry more, and so many characters.
-    pub(crate) fn make_room(&mut self, characters: usize) -> Result<(), AllocError>
+    pub(crate) fn reserve(&mut self, characters: usize) -> Result<(), AllocError>
         ensures entries { self.new.entries.items ≡ self.old.entries.items }
         ensures count { self.new.count ≡ self.old.count }
         ensures characters { self.new.characters.items ≡ self.old.characters.items }
@@ -111,18 +111,5 @@ impl Journal {
         self.characters.truncate(characters);
         cut_entries(&mut self.entries, place);
         self.count = place.count;
-    }
-}
-
-/// Adds the character that a step printed, if it printed one, for which there is room.
-fn push_character(characters: &mut Vec<u8>, did: Stepped)
-    requires { vec_len characters.old < vec_capacity characters.old }
-    ensures { characters.new.items ≡ characters.old.items ++ character_of did }
-{
-    if let Stepped::Ran {
-        printed: Some(character),
-    } = did
-    {
-        characters.push_reserved(character);
     }
 }

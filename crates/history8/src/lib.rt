@@ -16,6 +16,7 @@ mod replays;
 mod searches;
 mod stops;
 mod stores;
+mod watches;
 
 pub use histories::History;
 pub use outcomes::{End, Run};

@@ -1,12 +1,12 @@
 //! Changes of a history that are made again.
 
-ghost use Rattle.std.specs.Prelude.{◌≡◌, ℕ, ◌+◌, ◌^◌, ◌≤◌, ◌<◌, false, length, vec_capacity};
-ghost use Rattle.cpu8.specs.State.{next_cell};
-ghost use Rattle.cpu8.specs.Go.{after, characters_of, is_break};
+ghost use Rattle.std.specs.Prelude.{◌≡◌, ◌+◌, ◌^◌, ◌≤◌, ◌<◌, length, vec_capacity};
 ghost use Rattle.history8.specs.Entries.{AreSome, IsPlace, changes_of};
-ghost use Rattle.history8.specs.EntrySteps.{IsLastStep, MakesAgain, MeetsNoBreak, NextHasMore};
+ghost use Rattle.history8.specs.EntrySteps.{MakesAgain, NextHasMore};
+ghost use Rattle.history8.specs.Steps.{FindsNext};
 
-use crate::entries::{Entry, character_count, make_change, make_step};
+use crate::entries::{Entry, make_change};
+use crate::watches::{Breaks, Watch};
 use cpu8::Machine;
 
 /// A place in a history: after so many whole entries, and so many steps of the next one.
@@ -26,8 +26,6 @@ pub(crate) struct Replay {
     pub(crate) place: Place,
     /// How many characters they printed.
     pub(crate) characters: usize,
-    /// Whether the last of them was a step.
-    pub(crate) is_step: bool,
 }
 
 /// The most steps that are made again at once. There is room for as many characters.
@@ -52,43 +50,42 @@ pub(crate) fn make_again(
     ensures few { from.count + result.characters ≤ target }
     ensures room { vec_capacity spare.new ≡ vec_capacity spare.old }
 {
+    let none = Breaks { flags: &[] };
     let mut replay = Replay {
         place: from,
         characters: 0,
-        is_step: false,
     };
     while replay.place.count < target {
-        let more = make_part(machine, entries, replay.place, target, &[], spare);
+        let (more, _is_met) = make_part(machine, entries, replay.place, target, &none, spare);
         replay = Replay {
             place: more.place,
             characters: replay.characters + more.characters,
-            is_step: more.is_step,
         };
     }
     replay
 }
 
-/// The next change, or some of the next steps: none after one that comes to a break.
-pub(crate) fn make_part(
+/// The next change, or some of the next steps: none after one of which a condition holds. The answer is also whether it holds of the
+/// last of them.
+pub(crate) fn make_part<W: Watch>(
     machine: &mut Machine,
     entries: &[Entry],
     from: Place,
     target: usize,
-    breaks: &[bool],
+    watch: &W,
     spare: &mut Vec<u8>,
-) -> Replay
+) -> (Replay, bool)
     requires target { target ≤ length (changes_of entries.now) }
     requires before { from.count < target }
     requires place { IsPlace entries.now from.count from.entry from.steps }
     requires some { AreSome entries.now }
     requires room { STRETCH ≤ vec_capacity spare.old }
-    ensures place { IsPlace entries.now result.place.count result.place.entry result.place.steps }
-    ensures further { from.count < result.place.count }
-    ensures within { result.place.count ≤ target }
-    ensures made { MakesAgain entries.now from.count result.place.count machine.old machine.new result.characters }
-    ensures few { from.count + result.characters ≤ result.place.count }
-    ensures breaks { MeetsNoBreak breaks.now entries.now from.count result.place.count machine.old }
-    ensures is_step { IsLastStep entries.now result.place.count result.is_step }
+    ensures place { IsPlace entries.now result.0.place.count result.0.place.entry result.0.place.steps }
+    ensures further { from.count < result.0.place.count }
+    ensures within { result.0.place.count ≤ target }
+    ensures made { MakesAgain entries.now from.count result.0.place.count machine.old machine.new result.0.characters }
+    ensures few { from.count + result.0.characters ≤ result.0.place.count }
+    ensures found { FindsNext (W.condition watch.now) entries.now from.count result.0.place.count machine.old result.1 }
     ensures room { vec_capacity spare.new ≡ vec_capacity spare.old }
 {
     let place = without_whole_entry(entries, from);
@@ -98,26 +95,27 @@ pub(crate) fn make_part(
             let left = count - place.steps;
             let due = target - place.count;
             let most = left.min(due).min(STRETCH);
-            let (steps, characters) = make_steps(machine, quick, most, breaks, spare);
-            Replay {
-                place: after_steps(place, steps),
-                characters,
-                is_step: true,
-            }
+            spare.clear();
+            let steps = watch.make_steps(machine, quick, most, spare);
+            let replay = Replay {
+                place: after_steps(place, steps.count),
+                characters: spare.len(),
+            };
+            (replay, steps.is_met)
         }
         _ => {
             make_change(machine, next);
-            Replay {
+            let replay = Replay {
                 place: after_change(place),
                 characters: 0,
-                is_step: false,
-            }
+            };
+            (replay, false)
         }
     }
 }
 
 /// The same place with no step of the next entry before it, where all of them are.
-pub(crate) fn without_whole_entry(entries: &[Entry], place: Place) -> Place
+fn without_whole_entry(entries: &[Entry], place: Place) -> Place
     requires place { IsPlace entries.now place.count place.entry place.steps }
     requires before { place.count < length (changes_of entries.now) }
     requires some { AreSome entries.now }
@@ -163,7 +161,7 @@ fn entry_after(place: Place) -> Place
 }
 
 /// The place after so many steps more of the next entry.
-pub(crate) fn after_steps(place: Place, steps: usize) -> Place
+fn after_steps(place: Place, steps: usize) -> Place
     requires count { place.count + steps < 2 ^ 64 }
     requires steps { place.steps + steps < 2 ^ 64 }
     ensures count { result.count ≡ place.count + steps }
@@ -178,7 +176,7 @@ pub(crate) fn after_steps(place: Place, steps: usize) -> Place
 }
 
 /// The place after an entry that is no step.
-pub(crate) fn after_change(place: Place) -> Place
+fn after_change(place: Place) -> Place
     requires count { place.count + 1 < 2 ^ 64 }
     requires entry { place.entry + 1 < 2 ^ 64 }
     ensures count { result.count ≡ place.count + 1 }
@@ -190,31 +188,4 @@ pub(crate) fn after_change(place: Place) -> Place
         entry: place.entry + 1,
         steps: 0,
     }
-}
-
-/// Makes steps, at most so many and at least one, and none after one that comes to a break. The answer is how many, and how
-/// many characters they printed.
-fn make_steps(
-    machine: &mut Machine,
-    quick: bool,
-    most: usize,
-    breaks: &[bool],
-    spare: &mut Vec<u8>,
-) -> (usize, usize)
-    requires some { 0 < most }
-    requires room { most ≤ vec_capacity spare.old }
-    ensures some { 0 < result.0 }
-    ensures within { result.0 ≤ most }
-    ensures state { machine.new ≡ after quick result.0 machine.old }
-    ensures characters { result.1 ≡ length (characters_of quick result.0 machine.old) }
-    ensures breaks { (k : ℕ) → k + 1 < result.0 → is_break breaks.now (next_cell (after quick (k + 1) machine.old)) ≡ false }
-    ensures room { vec_capacity spare.new ≡ vec_capacity spare.old }
-{
-    spare.clear();
-    let gone = machine.run(most, quick, breaks, spare);
-    if gone.steps > 0 {
-        return (gone.steps, spare.len());
-    }
-    let did = make_step(machine, quick);
-    (1, character_count(did))
 }

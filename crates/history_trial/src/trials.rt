@@ -36,9 +36,11 @@ impl Trial {
     fn of(alloc: Global, machine: Machine, breaks: Vec<bool>, is_quick: bool) -> Option<Trial> {
         let mut first = Core::new(alloc).ok()?;
         copy_words(machine.core(), &mut first);
+        let mut history = History::new(alloc).ok()?;
+        history.begin(machine);
         Some(Trial {
             alloc,
-            history: History::new(alloc, machine).ok()?,
+            history,
             first,
             breaks,
             is_quick,
@@ -164,7 +166,7 @@ impl Trial {
         if !has_room(&self.history, most) {
             return None;
         }
-        Some(self.history.go_unasked(most))
+        self.history.go_unasked(most).ok()
     }
 
     /// How many changes ago a condition held last, if it did.

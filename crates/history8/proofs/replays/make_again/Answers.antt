@@ -15,11 +15,11 @@ loop-replay-init c = record {
 pub loop-replay-preserved : goal.loop-replay-preserved
 loop-replay-preserved c =
     let i = c.loop-replay.invariant in
-    let m = c.make_part-more in
+    let m = c.make_part-is_met in
     record {
       place = m.ensures.place;
-      made = made-more c.args.entries.now c.args.from.count c.loop-replay.replay.place.count m.result.place.count c.args.machine.now c.loop-replay.machine m.new.machine
-          c.loop-replay.replay.characters m.result.characters i.made m.ensures.made;
+      made = made-more c.args.entries.now c.args.from.count c.loop-replay.replay.place.count m.result.0.place.count c.args.machine.now c.loop-replay.machine m.new.machine
+          c.loop-replay.replay.characters m.result.0.characters i.made m.ensures.made;
       few = omega (arith, i.few, m.ensures.few);
       within = m.ensures.within;
       room = m.ensures.room ∙ i.room;
