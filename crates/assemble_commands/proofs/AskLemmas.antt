@@ -4,8 +4,7 @@ use Rattle.std.specs.Global.{Vec, Global}
 use Rattle.std.specs.Prelude.{String}
 use Rattle.std.specs.Str.{bytes_eq}
 use Rattle.hosts.specs.Event.{Event, same_call}
-use Rattle.hosts.specs.Place.{about}
-use Rattle.hosts.specs.Streams.{read}
+use Rattle.hosts.specs.Streams.{read, changes_at}
 use Rattle.archive_files.specs.declared.forms.PutForm.TheVariants.{Frames}
 use Rattle.archive_files.specs.Putting.{PutsFile}
 use Rattle.archive_files.specs.declared.faults.ArchiveFault.{ArchiveFault}
@@ -251,7 +250,7 @@ Asks {A} form step = (old : List Event) (given : A) (new : List Event) → step 
 later : (form : AssembleForm) (old new : List Event) → read new ≡ read old → AreOutputsApart form (read old) → AreOutputsApart form (read new)
 later form old new is p = subst (λ events. AreOutputsApart form events) (sym is) p
 
-shift : (form : AssembleForm) (path : List ℕ) (old between new : List Event) → about path between ≡ about path old → (about path new ≡ about path between) ⊎ AreOutputsApart form (read new) → (about path new ≡ about path old) ⊎ AreOutputsApart form (read new)
+shift : (form : AssembleForm) (path : List ℕ) (old between new : List Event) → changes_at path between ≡ changes_at path old → (changes_at path new ≡ changes_at path between) ⊎ AreOutputsApart form (read new) → (changes_at path new ≡ changes_at path old) ⊎ AreOutputsApart form (read new)
 shift form path old between new start (inl is) = inl (is ∙ start)
 shift form path old between new start (inr apart) = inr apart
 
@@ -312,7 +311,7 @@ module _
     (opens : (form : ImageForm) → KeepsFiles (Opens form))
     (input : KeepsFiles TakesInput)
     (prints : (bytes : List ℕ) → KeepsFiles (Prints bytes))
-    (refuses : (fault : ArchiveFault) (size : ℕ) (old : List Event) (ending : Ending) (new : List Event) → Refuses fault size old ending new → (path : List ℕ) → about path new ≡ about path old)
+    (refuses : (fault : ArchiveFault) (size : ℕ) (old : List Event) (ending : Ending) (new : List Event) → Refuses fault size old ending new → (path : List ℕ) → changes_at path new ≡ changes_at path old)
   where
     lists-asked : (volume : Option (List ℕ)) (form : AssembleForm) → KeepsOrAsks form (ListsTape volume form)
     lists-asked volume form =

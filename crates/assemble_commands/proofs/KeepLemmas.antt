@@ -5,8 +5,8 @@ use Rattle.std.specs.Global.{Vec, Global}
 use Rattle.std.specs.Prelude.{String, is_some}
 use Rattle.std.specs.Str.{bytes_eq}
 use Rattle.hosts.specs.Event.{Event, failed_same, tell_call}
-use Rattle.hosts.specs.Place.{about}
 use Rattle.hosts.specs.Faults.{class_of}
+use Rattle.hosts.specs.Streams.{changes_at}
 use Rattle.hosts.specs.declared.faults.FaultClass.{FaultClass}
 use Rattle.hosts.specs.declared.faults.FaultClass.TheVariants as class
 use Rattle.hosts.specs.declared.faults.HostFault.{HostFault}
@@ -59,7 +59,7 @@ use Rattle.assemble_commands.specs.declared.assembling.Assembled.{Assembled}
 
 -- ## Words that clash
 
-clash-refused : (clash : Option (NameNote × List ℕ)) (old : List Event) (ending : Ending) (new : List Event) → IsRefused clash old ending new → (path : List ℕ) → about path new ≡ about path old
+clash-refused : (clash : Option (NameNote × List ℕ)) (old : List Event) (ending : Ending) (new : List Event) → IsRefused clash old ending new → (path : List ℕ) → changes_at path new ≡ changes_at path old
 clash-refused None old ending new p path = absurd p
 clash-refused (Some clash) old ending new (inl (is, ok, p)) path = same path p
 clash-refused (Some clash) old ending new (inr p) path = same path p.1
@@ -70,19 +70,19 @@ clash-keeps form old (Err ending) new p path = clash-refused (clash_of form) old
 
 -- ## What sources come to
 
-line-keeps : (line : List ℕ) (old new : List Event) → TellsLine line old new → (path : List ℕ) → about path new ≡ about path old
+line-keeps : (line : List ℕ) (old new : List Event) → TellsLine line old new → (path : List ℕ) → changes_at path new ≡ changes_at path old
 line-keeps line old new (inl (is, ok, p)) path = same path p
 line-keeps line old new (inr p) path = same path p.1
 
-faults-keep : (text : List ℕ) (old : List Event) (ending : Ending) (new : List Event) → PrintsFaults text old ending new → (path : List ℕ) → about path new ≡ about path old
+faults-keep : (text : List ℕ) (old : List Event) (ending : Ending) (new : List Event) → PrintsFaults text old ending new → (path : List ℕ) → changes_at path new ≡ changes_at path old
 faults-keep text old ending new (inl p) path = line-keeps text old new p.1 path
 faults-keep text old ending new (inr p) path = same path p.1
 
-sources-refused : (sources names : List (Bor (List ℕ))) (fault : pal3_fault.SourceFault) (old : List Event) (ending : Ending) (new : List Event) → RefusesSources sources names fault old ending new → (path : List ℕ) → about path new ≡ about path old
+sources-refused : (sources names : List (Bor (List ℕ))) (fault : pal3_fault.SourceFault) (old : List Event) (ending : Ending) (new : List Event) → RefusesSources sources names fault old ending new → (path : List ℕ) → changes_at path new ≡ changes_at path old
 sources-refused sources names (pal3_is.At fault) old ending new p path = faults-keep (faults_text sources names fault) old ending new p path
 sources-refused sources names pal3_is.Memory old ending new p path = same path p.1
 
-pal8-refused : (options : Options) (sources names : List (Bor (List ℕ))) (fault : pal8_fault.SourceFault) (old : List Event) (ending : Ending) (new : List Event) → RefusesPal8 options sources names fault old ending new → (path : List ℕ) → about path new ≡ about path old
+pal8-refused : (options : Options) (sources names : List (Bor (List ℕ))) (fault : pal8_fault.SourceFault) (old : List Event) (ending : Ending) (new : List Event) → RefusesPal8 options sources names fault old ending new → (path : List ℕ) → changes_at path new ≡ changes_at path old
 pal8-refused options sources names (pal8_is.At fault) old ending new p path = faults-keep (pal8_faults_text options sources names fault) old ending new p path
 pal8-refused options sources names pal8_is.Memory old ending new p path = same path p.1
 
@@ -94,7 +94,7 @@ pal8-keeps : (is_listed is_cross : Bool) (options : Options) (sources names : Li
 pal8-keeps is_listed is_cross options sources names old (Ok made) new (assembled, listed, p) path = same path p
 pal8-keeps is_listed is_cross options sources names old (Err ending) new (fault, told, p) path = pal8-refused options sources names fault old ending new p path
 
-any-keeps : (lines : List ℕ) (old new : List Event) → TellsAny lines old new → (path : List ℕ) → about path new ≡ about path old
+any-keeps : (lines : List ℕ) (old new : List Event) → TellsAny lines old new → (path : List ℕ) → changes_at path new ≡ changes_at path old
 any-keeps [] old new p path = same path p
 any-keeps (b ∷ lines) old new p path = line-keeps (b ∷ lines) old new p path
 
@@ -275,12 +275,12 @@ pub inputs-keep : (form : AssembleForm) → KeepsFiles (KeepsInputs form)
 inputs-keep form = then-keeps (KeepsListing form form.list) (λ it. KeepsTape form (tape_of form.onto form.output)) (listing-apart form form.list) (λ it. tape-apart form (tape_of form.onto form.output))
 
 kept-refused : (form : AssembleForm) (made : Assembled) (old : List Event) (ending : Ending) (new : List Event) → Then (KeepsInputs form) (λ it. Then (WritesListing form.list made.listing) (λ it. Purely (IsTapeOf made))) old (Err ending) new
-    → is_refusal ending ≡ true → (path : List ℕ) → about path new ≡ about path old
+    → is_refusal ending ≡ true → (path : List ℕ) → changes_at path new ≡ changes_at path old
 kept-refused form made old ending new (inl p) is path = inputs-keep form old (Err ending) new p path
 kept-refused form made old ending new (inr it) is path = absurd (listed-never form made it.between ending new it.after is)
 
 made-refused : (form : AssembleForm) (texts : List (Vec ℕ)) (old : List Event) (ending : Ending) (new : List Event) → Then (Makes form (map (λ text. text.items) texts)) (λ made. Then (KeepsInputs form) (λ it. Then (WritesListing form.list made.listing) (λ it. Purely (IsTapeOf made)))) old (Err ending) new
-    → is_refusal ending ≡ true → (path : List ℕ) → about path new ≡ about path old
+    → is_refusal ending ≡ true → (path : List ℕ) → changes_at path new ≡ changes_at path old
 made-refused form texts old ending new (inl p) is path = makes-keeps form (map (λ text. text.items) texts) old (Err ending) new p path
 made-refused form texts old ending new (inr it) is path = kept-refused form it.given it.between ending new it.after is path ∙ makes-keeps form (map (λ text. text.items) texts) old (Ok it.given) it.between it.done path
 
@@ -290,11 +290,11 @@ module _
     (opens : (form : ImageForm) → KeepsFiles (Opens form))
     (input : KeepsFiles TakesInput)
     (prints : (bytes : List ℕ) → KeepsFiles (Prints bytes))
-    (refuses : (fault : ArchiveFault) (size : ℕ) (old : List Event) (ending : Ending) (new : List Event) → Refuses fault size old ending new → (path : List ℕ) → about path new ≡ about path old)
+    (refuses : (fault : ArchiveFault) (size : ℕ) (old : List Event) (ending : Ending) (new : List Event) → Refuses fault size old ending new → (path : List ℕ) → changes_at path new ≡ changes_at path old)
   where
     -- ## What is read
 
-    named : (is : Bool) (name : List ℕ) (why : Ending) (old : List Event) (ending : Ending) (new : List Event) → NamesIf is name why old ending new → (path : List ℕ) → about path new ≡ about path old
+    named : (is : Bool) (name : List ℕ) (why : Ending) (old : List Event) (ending : Ending) (new : List Event) → NamesIf is name why old ending new → (path : List ℕ) → changes_at path new ≡ changes_at path old
     named false name why old ending new p path = same path p.1
     named true name why old ending new (inl (is, ok, p)) path = same path p
     named true name why old ending new (inr p) path = same path p.1
@@ -307,7 +307,7 @@ module _
     reads-if true name old result new p path = input old result new p path
     reads-if false name old result new p path = file-keeps name old result new p path
 
-    source-refused : (name : List ℕ) (fault : ArchiveFault) (size : ℕ) (old : List Event) (ending : Ending) (new : List Event) → RefusesSource name fault size old ending new → (path : List ℕ) → about path new ≡ about path old
+    source-refused : (name : List ℕ) (fault : ArchiveFault) (size : ℕ) (old : List Event) (ending : Ending) (new : List Event) → RefusesSource name fault size old ending new → (path : List ℕ) → changes_at path new ≡ changes_at path old
     source-refused name fault size old ending new (inl (ok, p)) path = refuses fault size (tell_call ok (name_text NoSource name) ∷ old) ending new p path
     source-refused name fault size old ending new (inr p) path = same path p.1
 
@@ -360,28 +360,28 @@ module _
 
     -- ## Where the command is refused
 
-    lists-refused : (volume : Option (List ℕ)) (form : AssembleForm) (old : List Event) (ending : Ending) (new : List Event) → ListsTape volume form old (Err ending) new → is_refusal ending ≡ true → (path : List ℕ) → about path new ≡ about path old
+    lists-refused : (volume : Option (List ℕ)) (form : AssembleForm) (old : List Event) (ending : Ending) (new : List Event) → ListsTape volume form old (Err ending) new → is_refusal ending ≡ true → (path : List ℕ) → changes_at path new ≡ changes_at path old
     lists-refused volume form old ending new (inl p) is path = each-keeps volume (map (λ name. name.bytes.items) form.sources.items) [] old (Err ending) new p path
     lists-refused volume form old ending new (inr it) is path = made-refused form it.given.items it.between ending new it.after is path ∙ each-keeps volume (map (λ name. name.bytes.items) form.sources.items) [] old (Ok it.given) it.between it.done path
 
-    to-refused : (volume : Option (List ℕ)) (form : AssembleForm) (old : List Event) (ending : Ending) (new : List Event) → AssemblesTo volume form old (Err ending) new → is_refusal ending ≡ true → (path : List ℕ) → about path new ≡ about path old
+    to-refused : (volume : Option (List ℕ)) (form : AssembleForm) (old : List Event) (ending : Ending) (new : List Event) → AssemblesTo volume form old (Err ending) new → is_refusal ending ≡ true → (path : List ℕ) → changes_at path new ≡ changes_at path old
     to-refused volume form old ending new (inl p) is path = lists-refused volume form old ending new p is path
     to-refused volume form old ending new (inr it) is path = absurd (tape-never form.output it.given.items it.between ending new it.after is)
 
-    onto-refused : (form : AssembleForm) (held : Image) (name : List ℕ) (old : List Event) (ending : Ending) (new : List Event) → Then (ListsTape (Some held.bytes.items) form) (λ tape. PutsTape name tape.items held) old (Err ending) new → is_refusal ending ≡ true → (path : List ℕ) → about path new ≡ about path old
+    onto-refused : (form : AssembleForm) (held : Image) (name : List ℕ) (old : List Event) (ending : Ending) (new : List Event) → Then (ListsTape (Some held.bytes.items) form) (λ tape. PutsTape name tape.items held) old (Err ending) new → is_refusal ending ≡ true → (path : List ℕ) → changes_at path new ≡ changes_at path old
     onto-refused form held name old ending new (inl p) is path = lists-refused (Some held.bytes.items) form old ending new p is path
     onto-refused form held name old ending new (inr it) is path = absurd (puts-never name it.given.items held it.between ending new it.after is)
 
-    from-refused : (form : AssembleForm) (image : ImageForm) (onto : Option (String Global)) (old : List Event) (ending : Ending) (new : List Event) → AssemblesFrom form image onto old (Err ending) new → is_refusal ending ≡ true → (path : List ℕ) → about path new ≡ about path old
+    from-refused : (form : AssembleForm) (image : ImageForm) (onto : Option (String Global)) (old : List Event) (ending : Ending) (new : List Event) → AssemblesFrom form image onto old (Err ending) new → is_refusal ending ≡ true → (path : List ℕ) → changes_at path new ≡ changes_at path old
     from-refused form image None old ending new (inl p) is path = looks-at image old (Err ending) new p path
     from-refused form image None old ending new (inr it) is path = to-refused (Some it.given.items) form it.between ending new it.after is path ∙ looks-at image old (Ok it.given) it.between it.done path
     from-refused form image (Some name) old ending new (inl p) is path = opens image old (Err ending) new p path
     from-refused form image (Some name) old ending new (inr it) is path = onto-refused form it.given name.bytes.items it.between ending new it.after is path ∙ opens image old (Ok it.given) it.between it.done path
 
-    all-refused : (form : AssembleForm) (from : Option ImageForm) (old : List Event) (ending : Ending) (new : List Event) → AssemblesAll form from old (Err ending) new → is_refusal ending ≡ true → (path : List ℕ) → about path new ≡ about path old
+    all-refused : (form : AssembleForm) (from : Option ImageForm) (old : List Event) (ending : Ending) (new : List Event) → AssemblesAll form from old (Err ending) new → is_refusal ending ≡ true → (path : List ℕ) → changes_at path new ≡ changes_at path old
     all-refused form None old ending new p is path = to-refused None form old ending new p is path
     all-refused form (Some image) old ending new p is path = from-refused form image form.onto old ending new p is path
 
-    pub assembles-refused : (form : AssembleForm) (old : List Event) (ending : Ending) (new : List Event) → is_refusal ending ≡ true → Assembles form old (Err ending) new → (path : List ℕ) → about path new ≡ about path old
+    pub assembles-refused : (form : AssembleForm) (old : List Event) (ending : Ending) (new : List Event) → is_refusal ending ≡ true → Assembles form old (Err ending) new → (path : List ℕ) → changes_at path new ≡ changes_at path old
     assembles-refused form old ending new is (inl p) path = clash-keeps form old (Err ending) new p path
     assembles-refused form old ending new is (inr it) path = all-refused form form.from it.between ending new it.after is path ∙ clash-keeps form old (Ok it.given) it.between it.done path

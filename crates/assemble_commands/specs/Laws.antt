@@ -2,8 +2,7 @@
 use Rattle.std.specs.Prelude.{◌≡◌, ◌⊎◌, ℕ, Bool, true, false, Option, None, Some, String, Result, List, [], ◌∷◌, map}
 use Rattle.std.specs.Global.{Global}
 use Rattle.hosts.specs.Event.{Event}
-use Rattle.hosts.specs.Place.{about}
-use Rattle.hosts.specs.Streams.{read}
+use Rattle.hosts.specs.Streams.{read, changes_at}
 use Rattle.program_reports.specs.declared.programs.ProgramLine.TheVariants.{HostRead, OneFile}
 use Rattle.outcome.specs.declared.endings.Ending.{Ending}
 use Rattle.outcome.specs.declared.endings.Ending.TheVariants.{Line, Fault, Failure, Busy, NotWritten, FullOutput, NoReader, Misuse, Unreported}
@@ -59,6 +58,6 @@ pub record AreOutputsApart (form : AssembleForm) (events : List Event) : Type 0 
   pub tape : KeepsReadIf form (tape_of form.onto form.output) events
   pub two : AreTwo (tape_of form.onto form.output) (listing_of form.list) events
 
--- the file of each path is as it was, or the host has said so
+-- the file of each path is as it was and no folder was made, or the host has said so
 abbrev pub KeepsOrAsks : {A : Type 0} → AssembleForm → (List Event → Result A Ending → List Event → Type 0) → Type 0
-KeepsOrAsks {A} form step = (old : List Event) (result : Result A Ending) (new : List Event) → step old result new → (path : List ℕ) → (about path new ≡ about path old) ⊎ AreOutputsApart form (read new)
+KeepsOrAsks {A} form step = (old : List Event) (result : Result A Ending) (new : List Event) → step old result new → (path : List ℕ) → (changes_at path new ≡ changes_at path old) ⊎ AreOutputsApart form (read new)

@@ -1,7 +1,7 @@
 //! What the command that assembles sources leaves as it was.
 ghost use Rattle.std.specs.Prelude.{◌≡◌, ℕ, List, Err, None, true};
 ghost use Rattle.hosts.specs.Event.{Event};
-ghost use Rattle.hosts.specs.Place.{about};
+ghost use Rattle.hosts.specs.Streams.{changes_at};
 ghost use Rattle.outcome.specs.declared.endings.Ending.{Ending};
 ghost use Rattle.program_tasks.specs.declared.tasks.AssembleForm.{AssembleForm};
 ghost use Rattle.image_files.specs.Laws.{KeepsFiles};
@@ -10,15 +10,16 @@ ghost use Rattle.assemble_commands.specs.Laws.{KeepsOrAsks, is_refusal};
 
 use image_files::laws::kept_files;
 
-/// A law: where the words clash, a file can't be read, the sources have a fault or an output is an input, no file of the host is changed.
+/// A law: where the words clash, a file can't be read, the sources have a fault or an output is an input, no file of the host is changed. No
+/// folder is made.
 pub fn refused_sources()
     ensures { (form : AssembleForm) (old : List Event) (ending : Ending) (new : List Event) → is_refusal ending ≡ true → Assembles form old (Err ending) new
-        → (path : List ℕ) → about path new ≡ about path old }
+        → (path : List ℕ) → changes_at path new ≡ changes_at path old }
 {
     kept_files();
 }
 
-/// A law: where no file is named for the tape or the listing, no file of the host is changed, in whichever way the command ends.
+/// A law: where no file is named for the tape or the listing, no file of the host is changed and no folder made, in whichever way the command ends.
 pub fn unchanged_files()
     ensures { (form : AssembleForm) → form.onto ≡ None → form.output ≡ None → form.list ≡ None → KeepsFiles (Assembles form) }
 {

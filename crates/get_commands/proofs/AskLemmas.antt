@@ -3,7 +3,7 @@ use Rattle.std.proofs.Common.{◌≡◌, ◌∙◌, ◌⊎◌, ◌++◌, ◌∷�
 use Rattle.std.specs.Str.{bytes_eq}
 use Rattle.hosts.specs.Event.{Event, failed_same, same_call}
 use Rattle.hosts.specs.Place.{about}
-use Rattle.hosts.specs.Streams.{read}
+use Rattle.hosts.specs.Streams.{changes_at, read}
 use Rattle.hosts.specs.declared.faults.HostFault.{HostFault}
 use Rattle.os8_dir.specs.declared.file_faults.FileFault.{FileFault}
 use Rattle.os8_dir.specs.declared.file_faults.FileFault.TheVariants.{BadName, NotFound}
@@ -29,13 +29,13 @@ use Rattle.outcome.specs.declared.reasons.Reason.{Reason}
 use Rattle.image_files.specs.Reasons.{TellsReason, TellsUnless, is_want_of_memory, reason_of_first}
 use Rattle.image_files.specs.Saving.{IsDone, Prints}
 use Rattle.image_files.specs.Work.{After, Then, Purely}
-use Rattle.image_files.proofs.KeepLemmas.{looks-at-keeps}
+use Rattle.image_files.proofs.KeepLemmas.{looks-at-keeps, of-file}
 use Rattle.image_files.proofs.LeaveLemmas.{answers-never}
 use Rattle.get_commands.specs.GettingMany.{AreFilesOn, GetsMany, GivesAsked, GivesEach, GivesFile, GivesNoted, GivesWish, HasLaid, IsHostName, IsPath, LaysAndTells, LaysApart, LaysFile, MakesFolder, NotesGot, PrintsAnswer, RefusesOver, RefusesWord, TakesFile, TellsGot, TellsLaid, TellsUnlaid, count_after, line_of_laid, time_of_file}
 use Rattle.get_commands.specs.Laws.{KeepsImage}
 use Rattle.asked_files.specs.Texts.{TakesLists, get_form, is_got_noted}
 use Rattle.get_commands.specs.Wishing.{AreWishes, words_of}
-use Rattle.get_commands.proofs.GettingMany.{folder-never, same-path}
+use Rattle.get_commands.proofs.GettingMany.{folder-files, same-path}
 use Rattle.asked_files.proofs.ListLemmas.{lists-never}
 
 -- what a step may have done to files, and to what was said
@@ -275,11 +275,17 @@ shift image path old between new start (inr said) = inr said
 then-kept : {A B : Type 0} (image : List ℕ) (first : List Event → Result A Ending → List Event → Type 0) (next : A → List Event → Result B Ending → List Event → Type 0)
     → KeepsFiles first → ((given : A) → KeepsImage image (next given)) → KeepsImage image (Then first next)
 then-kept image first next f n old (Ok r) new (inl ends) path = absurd ends
-then-kept image first next f n old (Err e) new (inl ends) path = inl (f old (Err e) new ends path)
-then-kept image first next f n old result new (inr it) path = shift image path old it.between new (f old (Ok it.given) it.between it.done path) (n it.given it.between result new it.after path)
+then-kept image first next f n old (Err e) new (inl ends) path = inl (of-file path (f old (Err e) new ends path))
+then-kept image first next f n old result new (inr it) path = shift image path old it.between new (of-file path (f old (Ok it.given) it.between it.done path)) (n it.given it.between result new it.after path)
+
+-- a folder is made first
+folder-kept : {B : Type 0} (image folder : List ℕ) (next : List Event → Result B Ending → List Event → Type 0) → KeepsImage image next → KeepsImage image (Then (MakesFolder folder) (λ it. next))
+folder-kept image folder next n old (Ok r) new (inl ends) path = absurd ends
+folder-kept image folder next n old (Err e) new (inl ends) path = inl (folder-files folder old (Err e) new ends path)
+folder-kept image folder next n old result new (inr it) path = shift image path old it.between new (folder-files folder old (Ok it.given) it.between it.done path) (n it.between result new it.after path)
 
 purely-never : {A : Type 0} (gives : Result A Ending → Type 0) → KeepsFiles (Purely gives)
-purely-never gives old result new p path = ap (λ (events : List Event). about path events) p.1
+purely-never gives old result new p path = ap (λ (events : List Event). changes_at path events) p.1
 
 asked-kept : {A : Type 0} (image : List ℕ) (step : List Event → Result A Ending → List Event → Type 0) → Asking image step → KeepsImage image step
 asked-kept image step a old result new p path = (a old result new p).asks path
@@ -290,8 +296,8 @@ gives-asked form blocks =
     (purely-never (AreFilesOn blocks))
     (λ files. then-kept form.image.file.bytes.items (Purely (AreWishes form files.items)) (λ wishes. Then (MakesFolder form.folder.bytes.items) (λ it. Each form blocks (length files.items) wishes.items))
     (purely-never (AreWishes form files.items))
-    (λ wishes. then-kept form.image.file.bytes.items (MakesFolder form.folder.bytes.items) (λ it. Each form blocks (length files.items) wishes.items) (folder-never form.folder.bytes.items)
-    (λ it. asked-kept form.image.file.bytes.items (Each form blocks (length files.items) wishes.items) (each-asking form blocks (length files.items) wishes.items))))
+    (λ wishes. folder-kept form.image.file.bytes.items form.folder.bytes.items (Each form blocks (length files.items) wishes.items)
+    (asked-kept form.image.file.bytes.items (Each form blocks (length files.items) wishes.items) (each-asking form blocks (length files.items) wishes.items))))
 
 pub image-kept : (form : GetManyForm) → KeepsImage form.image.file.bytes.items (GetsMany form)
 image-kept form =

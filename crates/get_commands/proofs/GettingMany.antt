@@ -5,6 +5,7 @@ use Rattle.std.proofs.lemmas.Slice.Eq.{bytes_eq-Decides}
 use Rattle.hosts.specs.Event.{Event, MakeFolder, failed_call, failed_same, same_call}
 use Rattle.hosts.specs.Place.{about}
 use Rattle.hosts.specs.Saving.{replacements}
+use Rattle.hosts.specs.Streams.{changes_at, folders}
 use Rattle.hosts.specs.declared.faults.HostFault.{HostFault}
 use Rattle.os8_dir.specs.declared.file_faults.FileFault.{FileFault}
 use Rattle.os8_dir.specs.declared.file_faults.FileFault.TheVariants.{BadName, NotFound}
@@ -26,7 +27,7 @@ use Rattle.image_files.specs.Reading.{LooksAt}
 use Rattle.image_files.specs.Saving.{IsDone, Prints}
 use Rattle.image_files.specs.Work.{After, Then, Purely}
 use Rattle.get_commands.specs.GettingMany.{AreFilesOn, GetsMany, GivesAsked, GivesEach, GivesFile, GivesWish, HasLaid, IsPath, LaysAndTells, LaysFile, MakesFolder, PrintsAnswer, RefusesWord, ReplacesIf, TakesFile, IsHostName, TellsLaid, TellsUnlaid, count_after, line_of_laid, time_of_file, LaysApart, RefusesOver, GivesNoted, NotesGot, TellsGot}
-use Rattle.image_files.specs.Laws.{NeverReplaces}
+use Rattle.image_files.specs.Laws.{MakesAtMost, MakesFolderAlone, NeverReplaces}
 use Rattle.get_commands.specs.Laws.{ChangesIn, IsIn}
 use Rattle.host_progress.specs.Progressing.{TellsProgress, WithProgress}
 use Rattle.image_files.specs.Ending.{EndsSound}
@@ -36,7 +37,7 @@ use Rattle.archive_many.specs.declared.wishes.Wish.{Wish}
 use Rattle.archive_many.specs.declared.wishes.Wish.TheVariants as wish
 use Rattle.asked_files.proofs.ListLemmas.{lists-never}
 use Rattle.image_files.specs.Laws.{KeepsFiles, ChangesNothing}
-use Rattle.image_files.proofs.KeepLemmas.{after-keeps as after-never, then-keeps as then-never, purely-keeps as purely-never, prints-keeps, looks-at-keeps}
+use Rattle.image_files.proofs.KeepLemmas.{of-file, of-folders, after-keeps as after-never, then-keeps as then-never, purely-keeps as purely-never, prints-keeps, looks-at-keeps}
 use Rattle.image_files.proofs.LeaveLemmas.{same, answers-never}
 use Rattle.host_progress.proofs.KeepLemmas.{begins-never, ends-never, progress-never}
 
@@ -44,15 +45,16 @@ use Rattle.host_progress.proofs.KeepLemmas.{begins-never, ends-never, progress-n
 record Stays (form : GetManyForm) (old new : List Event) : Type 0 where
   others : (path : List ℕ) → (IsIn form.folder.bytes.items path → ⊥) → about path new ≡ about path old
   replaced : form.is_forced ≡ false → (path : List ℕ) → replacements (about path new) ≡ replacements (about path old)
+  makes : folders new ≡ folders old
 
 abbrev Keeps : {A : Type 0} → GetManyForm → (List Event → Result A Ending → List Event → Type 0) → Type 0
 Keeps {A} form command = (old : List Event) (result : Result A Ending) (new : List Event) → command old result new → Stays form old new
 
 still : (form : GetManyForm) (old new : List Event) → ChangesNothing old new → Stays form old new
-still form old new p = record { others = λ path out. p path; replaced = λ is path. ap replacements (p path) }
+still form old new p = record { others = λ path out. of-file path (p path); replaced = λ is path. ap replacements (of-file path (p path)); makes = of-folders [] (p []) }
 
 both : (form : GetManyForm) (old between new : List Event) → Stays form old between → Stays form between new → Stays form old new
-both form old between new p q = record { others = λ path out. q.others path out ∙ p.others path out; replaced = λ is path. q.replaced is path ∙ p.replaced is path }
+both form old between new p q = record { others = λ path out. q.others path out ∙ p.others path out; replaced = λ is path. q.replaced is path ∙ p.replaced is path; makes = q.makes ∙ p.makes }
 
 keeps-never : {A : Type 0} (form : GetManyForm) (command : List Event → Result A Ending → List Event → Type 0) → KeepsFiles command → Keeps form command
 keeps-never form command n old result new p = still form old new (n old result new p)
@@ -93,6 +95,7 @@ laid-stays : (form : GetManyForm) (path bytes : List ℕ) (seconds : Option ℕ)
 laid-stays form path bytes seconds done old new inside laid = record {
   others = λ other out. laid-others form path bytes seconds done old new inside laid (bytes_eq path other) other refl out;
   replaced = λ is other. laid-replaced form path bytes seconds done old new laid is (bytes_eq path other) other refl;
+  makes = laid.only.keeps_folders;
 }
 
 lays-stays : (form : GetManyForm) (path bytes : List ℕ) (seconds : Option ℕ) (done : Result (Unit {0}) HostFault) (old new : List Event) → IsIn form.folder.bytes.items path → LaysFile path bytes seconds form.is_forced old done new → Stays form old new
@@ -119,8 +122,8 @@ lays-and-tells form file name path bytes seconds inside old result new p =
     both form old p.between new (lays-stays form path bytes seconds p.done old p.between inside p.lays) (still form p.between new (tells-laid-never file name path p.done p.between result new p.tells))
 
 pub pair-never : (output input : List ℕ) → KeepsFiles (TellsPair output input)
-pair-never output input old (Ok it) new (ok, p) path = ap (λ (events : List Event). about path events) p
-pair-never output input old (Err ending) new p path = ap (λ (events : List Event). about path events) p.1
+pair-never output input old (Ok it) new (ok, p) path = ap (λ (events : List Event). changes_at path events) p
+pair-never output input old (Err ending) new p path = ap (λ (events : List Event). changes_at path events) p.1
 
 pub over-never : (name path image : List ℕ) → KeepsFiles (RefusesOver name path image)
 over-never name path image =
@@ -190,9 +193,59 @@ gives-each form blocks is_told all done are_there (one ∷ wishes) =
 
 -- ## The command
 
-pub folder-never : (folder : List ℕ) → KeepsFiles (MakesFolder folder)
-folder-never folder old (Ok it) new p = λ path. ap (λ (events : List Event). about path events) p
-folder-never folder old (Err ending) new (fault, is, p) = λ path. unless-keeps (is_want_of_memory fault) (reason.Fault fault) folder (failed_call MakeFolder folder fault ∷ old) new p path
+pub folder-files : (folder : List ℕ) (old : List Event) (result : Result (Unit {0}) Ending) (new : List Event) → MakesFolder folder old result new → (path : List ℕ) → about path new ≡ about path old
+folder-files folder old (Ok it) new p path = ap (λ (events : List Event). about path events) p
+folder-files folder old (Err ending) new (fault, is, p) path = of-file path (unless-keeps (is_want_of_memory fault) (reason.Fault fault) folder (failed_call MakeFolder folder fault ∷ old) new p path)
+
+folder-made : (folder : List ℕ) (old : List Event) (result : Result (Unit {0}) Ending) (new : List Event) → MakesFolder folder old result new → MakesAtMost folder old new
+folder-made folder old (Ok it) new p = inr (true, ap (λ (events : List Event). folders events) p)
+folder-made folder old (Err ending) new (fault, is, p) = inr (false, of-folders [] (unless-keeps (is_want_of_memory fault) (reason.Fault fault) folder (failed_call MakeFolder folder fault ∷ old) new p []))
+
+-- the same of a command that makes its folder, and no other
+record Makes (form : GetManyForm) (old new : List Event) : Type 0 where
+  others : (path : List ℕ) → (IsIn form.folder.bytes.items path → ⊥) → about path new ≡ about path old
+  replaced : form.is_forced ≡ false → (path : List ℕ) → replacements (about path new) ≡ replacements (about path old)
+  one : MakesAtMost form.folder.bytes.items old new
+
+abbrev Making : {A : Type 0} → GetManyForm → (List Event → Result A Ending → List Event → Type 0) → Type 0
+Making {A} form command = (old : List Event) (result : Result A Ending) (new : List Event) → command old result new → Makes form old new
+
+one-before : (folder : List ℕ) (old between new : List Event) → folders between ≡ folders old → MakesAtMost folder between new → MakesAtMost folder old new
+one-before folder old between new none (inl is) = inl (is ∙ none)
+one-before folder old between new none (inr (ok, is)) = inr (ok, is ∙ ap (λ (all : List (Bool × List ℕ)). (ok, folder) ∷ all) none)
+
+one-after : (folder : List ℕ) (old between new : List Event) → MakesAtMost folder old between → folders new ≡ folders between → MakesAtMost folder old new
+one-after folder old between new (inl is) none = inl (none ∙ is)
+one-after folder old between new (inr (ok, is)) none = inr (ok, none ∙ is)
+
+begun : (form : GetManyForm) (old between new : List Event) → Stays form old between → Makes form between new → Makes form old new
+begun form old between new p q = record { others = λ path out. q.others path out ∙ p.others path out; replaced = λ is path. q.replaced is path ∙ p.replaced is path; one = one-before form.folder.bytes.items old between new p.makes q.one }
+
+ended : (form : GetManyForm) (old new : List Event) → Stays form old new → Makes form old new
+ended form old new p = record { others = p.others; replaced = p.replaced; one = inl p.makes }
+
+-- a step that makes no folder, and then one that may make it
+then-making : {A B : Type 0} (form : GetManyForm) (first : List Event → Result A Ending → List Event → Type 0) (next : A → List Event → Result B Ending → List Event → Type 0)
+    → Keeps form first → ((a : A) → Making form (next a)) → Making form (Then first next)
+then-making form first next f n old (Ok r) new (inl ends) = absurd ends
+then-making form first next f n old (Err e) new (inl ends) = ended form old new (f old (Err e) new ends)
+then-making form first next f n old result new (inr it) = begun form old it.between new (f old (Ok it.given) it.between it.done) (n it.given it.between result new it.after)
+
+makes-folder : (form : GetManyForm) (old : List Event) (result : Result (Unit {0}) Ending) (new : List Event) → MakesFolder form.folder.bytes.items old result new → Makes form old new
+makes-folder form old result new p = record {
+  others = λ path out. folder-files form.folder.bytes.items old result new p path;
+  replaced = λ is path. ap replacements (folder-files form.folder.bytes.items old result new p path);
+  one = folder-made form.folder.bytes.items old result new p;
+}
+
+-- the folder is made, and then a step makes none
+folder-then : {B : Type 0} (form : GetManyForm) (next : List Event → Result B Ending → List Event → Type 0) → Keeps form next → Making form (Then (MakesFolder form.folder.bytes.items) (λ it. next))
+folder-then form next n old (Ok r) new (inl ends) = absurd ends
+folder-then form next n old (Err e) new (inl ends) = let m = makes-folder form old (Err e) new ends in record { others = m.others; replaced = m.replaced; one = m.one }
+folder-then form next n old result new (inr it) =
+    let m = makes-folder form old (Ok it.given) it.between it.done in
+    let k = n it.between result new it.after in
+    record { others = λ path out. k.others path out ∙ m.others path out; replaced = λ is path. k.replaced is path ∙ m.replaced is path; one = one-after form.folder.bytes.items old it.between new m.one k.makes }
 
 with-progress : {A : Type 0} (form : GetManyForm) (work : Bool → List Event → Result A Ending → List Event → Type 0) → ((is_told : Bool) → Keeps form (work is_told)) → Keeps form (WithProgress work)
 with-progress form work n old result new p =
@@ -200,26 +253,28 @@ with-progress form work n old result new p =
     (both form old p.begun p.done (still form old p.begun (begins-never p.is_told old p.begun p.begins)) (n p.is_told p.begun result p.done p.works))
     (still form p.done new (ends-never p.is_told p.done new p.ends))
 
-gives-asked : (form : GetManyForm) (blocks : List (List ℕ)) → Keeps form (GivesAsked form blocks)
+gives-asked : (form : GetManyForm) (blocks : List (List ℕ)) → Making form (GivesAsked form blocks)
 gives-asked form blocks =
-    then-keeps form (Purely (AreFilesOn blocks)) (λ files. Then (Purely (AreWishes form files.items)) (λ wishes. Then (MakesFolder form.folder.bytes.items) (λ it. Then (WithProgress (λ is_told. GivesEach form blocks is_told (length files.items) 0 true wishes.items)) (λ are_there. Purely (EndsSound are_there)))))
+    then-making form (Purely (AreFilesOn blocks)) (λ files. Then (Purely (AreWishes form files.items)) (λ wishes. Then (MakesFolder form.folder.bytes.items) (λ it. Then (WithProgress (λ is_told. GivesEach form blocks is_told (length files.items) 0 true wishes.items)) (λ are_there. Purely (EndsSound are_there)))))
     (purely-keeps form (AreFilesOn blocks))
-    (λ files. then-keeps form (Purely (AreWishes form files.items)) (λ wishes. Then (MakesFolder form.folder.bytes.items) (λ it. Then (WithProgress (λ is_told. GivesEach form blocks is_told (length files.items) 0 true wishes.items)) (λ are_there. Purely (EndsSound are_there))))
+    (λ files. then-making form (Purely (AreWishes form files.items)) (λ wishes. Then (MakesFolder form.folder.bytes.items) (λ it. Then (WithProgress (λ is_told. GivesEach form blocks is_told (length files.items) 0 true wishes.items)) (λ are_there. Purely (EndsSound are_there))))
     (purely-keeps form (AreWishes form files.items))
-    (λ wishes. then-keeps form (MakesFolder form.folder.bytes.items) (λ it. Then (WithProgress (λ is_told. GivesEach form blocks is_told (length files.items) 0 true wishes.items)) (λ are_there. Purely (EndsSound are_there)))
-    (keeps-never form (MakesFolder form.folder.bytes.items) (folder-never form.folder.bytes.items))
-    (λ it. then-keeps form (WithProgress (λ is_told. GivesEach form blocks is_told (length files.items) 0 true wishes.items)) (λ are_there. Purely (EndsSound are_there))
+    (λ wishes. folder-then form (Then (WithProgress (λ is_told. GivesEach form blocks is_told (length files.items) 0 true wishes.items)) (λ are_there. Purely (EndsSound are_there)))
+    (then-keeps form (WithProgress (λ is_told. GivesEach form blocks is_told (length files.items) 0 true wishes.items)) (λ are_there. Purely (EndsSound are_there))
     (with-progress form (λ is_told. GivesEach form blocks is_told (length files.items) 0 true wishes.items) (λ is_told. gives-each form blocks is_told (length files.items) 0 true wishes.items))
     (λ are_there. purely-keeps form (EndsSound are_there)))))
 
-gets-many : (form : GetManyForm) → Keeps form (GetsMany form)
+gets-many : (form : GetManyForm) → Making form (GetsMany form)
 gets-many form =
-    then-keeps form (TakesLists form.texts) (λ it. Then (LooksAt form.image) (λ image. Then (Answers (OpensVolume image.items) (length image.items)) (GivesAsked form))) (keeps-never form (TakesLists form.texts) (lists-never form.texts))
-    (λ it. then-keeps form (LooksAt form.image) (λ image. Then (Answers (OpensVolume image.items) (length image.items)) (GivesAsked form)) (keeps-never form (LooksAt form.image) (looks-at-keeps form.image))
-    (λ image. then-keeps form (Answers (OpensVolume image.items) (length image.items)) (GivesAsked form) (keeps-never form (Answers (OpensVolume image.items) (length image.items)) (answers-never (OpensVolume image.items) (length image.items))) (gives-asked form)))
+    then-making form (TakesLists form.texts) (λ it. Then (LooksAt form.image) (λ image. Then (Answers (OpensVolume image.items) (length image.items)) (GivesAsked form))) (keeps-never form (TakesLists form.texts) (lists-never form.texts))
+    (λ it. then-making form (LooksAt form.image) (λ image. Then (Answers (OpensVolume image.items) (length image.items)) (GivesAsked form)) (keeps-never form (LooksAt form.image) (looks-at-keeps form.image))
+    (λ image. then-making form (Answers (OpensVolume image.items) (length image.items)) (GivesAsked form) (keeps-never form (Answers (OpensVolume image.items) (length image.items)) (answers-never (OpensVolume image.items) (length image.items))) (gives-asked form)))
 
 pub folder-alone : (form : GetManyForm) → ChangesIn form.folder.bytes.items (GetsMany form)
 folder-alone form old result new p = (gets-many form old result new p).others
 
 pub none-replaced : (form : GetManyForm) → form.is_forced ≡ false → NeverReplaces (GetsMany form)
 none-replaced form is old result new p = (gets-many form old result new p).replaced is
+
+pub one-folder : (form : GetManyForm) → MakesFolderAlone form.folder.bytes.items (GetsMany form)
+one-folder form old result new p = (gets-many form old result new p).one

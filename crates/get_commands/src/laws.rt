@@ -7,13 +7,13 @@ ghost use Rattle.archive_files.specs.declared.asking.Asked.{Asked as File};
 ghost use Rattle.program_tasks.specs.declared.forms.GetManyForm.{GetManyForm as GetMany};
 ghost use Rattle.program_tasks.specs.declared.forms.ImageForm.{ImageForm as Image};
 ghost use Rattle.archive_files.specs.Asking.{target_of};
-ghost use Rattle.image_files.specs.Laws.{KeepsFiles, NeverReplaces};
+ghost use Rattle.image_files.specs.Laws.{KeepsFiles, MakesFolderAlone, NeverReplaces};
 ghost use Rattle.get_commands.specs.GettingMany.{GetsMany};
 ghost use Rattle.get_commands.specs.Laws.{ChangesIn, KeepsImage};
 ghost use Rattle.get_commands.specs.Showing.{Shows};
 ghost use Rattle.get_commands.specs.ShowingParts.{ShowsBlocks, ShowsTape};
 
-/// A command that shows what an image has changes no file, in whichever way it ends.
+/// A command that shows what an image has changes no file and makes no folder, in whichever way it ends.
 pub fn shown_files()
     ensures gets { (file : File) (how : How) (form : Image) → KeepsFiles (Shows (λ bytes. Gets bytes (target_of file) how) form) }
     ensures blocks { (form : Blocks) → KeepsFiles (ShowsBlocks form) }
@@ -21,9 +21,10 @@ pub fn shown_files()
 {}
 
 /// A command that gets several files to a folder changes no path but those of the folder, and replaces no file there unless that is asked
-/// for. What was there before is as it was.
+/// for. What was there before is as it was. It makes no folder but that one.
 pub fn gotten_files()
     ensures folder { (form : GetMany) → ChangesIn form.folder.bytes.items (GetsMany form) }
+    ensures made { (form : GetMany) → MakesFolderAlone form.folder.bytes.items (GetsMany form) }
     ensures older { (form : GetMany) → form.is_forced ≡ false → NeverReplaces (GetsMany form) }
 {}
 

@@ -3,7 +3,7 @@ use Rattle.std.proofs.Common.{◌≡◌, ◌∙◌, ℕ, Bool, true, false, nat_
 use Rattle.hosts.specs.Event.{Event, Call, print_call}
 use Rattle.hosts.specs.Faults.{pipe_number}
 use Rattle.hosts.specs.Place.{about, with_step}
-use Rattle.hosts.specs.Streams.{errors, output, read, with_printed, with_told, with_read}
+use Rattle.hosts.specs.Streams.{changes_at, errors, folders, output, read, with_folder, with_printed, with_told, with_read}
 use Rattle.hosts.specs.declared.faults.PrintFault.{PrintFault}
 use Rattle.hosts.specs.declared.faults.PrintFault.TheVariants.{Abandoned, Failed}
 use Rattle.host_output.specs.Printing.{ArePrinted, ArePrints, AreTaken, AreTakenButLast, HasPrinted, StopsAtFailure, last_fault}
@@ -53,13 +53,15 @@ printed_fault old between new fault why bytes p none is = record {
 
 -- ## What they leave
 
-about_printed : (path : List ℕ) (prints old : List Event) → ArePrinted prints → about path (prints ++ old) ≡ about path old
-about_printed path [] old all = refl
-about_printed path (e ∷ earlier) old all = ap (λ (call : Call). with_step call e path (about path (earlier ++ old))) all.0 ∙ about_printed path earlier old all.2
+changes_printed : (path : List ℕ) (prints old : List Event) → ArePrinted prints → changes_at path (prints ++ old) ≡ changes_at path old
+changes_printed path [] old all = refl
+changes_printed path (e ∷ earlier) old all =
+    ap (λ (call : Call). (with_step call e path (about path (earlier ++ old)), with_folder call e (folders (earlier ++ old)))) all.0 ∙ changes_printed path earlier old all.2
 
-about_prints : (path : List ℕ) (prints old : List Event) → ArePrints prints → about path (prints ++ old) ≡ about path old
-about_prints path [] old all = refl
-about_prints path (e ∷ earlier) old all = ap (λ (call : Call). with_step call e path (about path (earlier ++ old))) all.0 ∙ about_printed path earlier old all.1
+changes_prints : (path : List ℕ) (prints old : List Event) → ArePrints prints → changes_at path (prints ++ old) ≡ changes_at path old
+changes_prints path [] old all = refl
+changes_prints path (e ∷ earlier) old all =
+    ap (λ (call : Call). (with_step call e path (about path (earlier ++ old)), with_folder call e (folders (earlier ++ old)))) all.0 ∙ changes_printed path earlier old all.1
 
 errors_printed : (prints old : List Event) → ArePrinted prints → errors (prints ++ old) ≡ errors old
 errors_printed [] old all = refl
@@ -77,8 +79,8 @@ read_prints : (prints old : List Event) → ArePrints prints → read (prints ++
 read_prints [] old all = refl
 read_prints (e ∷ earlier) old all = ap (λ (call : Call). with_read call e (read (earlier ++ old))) all.0 ∙ read_printed earlier old all.1
 
-pub same_files : (old new : List Event) (fault : Option PrintFault) (path : List ℕ) → HasPrinted old new fault → about path new ≡ about path old
-same_files old new fault path p = ap (λ (events : List Event). about path events) p.calls ∙ about_prints path p.prints old p.all
+pub same_files : (old new : List Event) (fault : Option PrintFault) (path : List ℕ) → HasPrinted old new fault → changes_at path new ≡ changes_at path old
+same_files old new fault path p = ap (λ (events : List Event). changes_at path events) p.calls ∙ changes_prints path p.prints old p.all
 
 pub same_errors : (old new : List Event) (fault : Option PrintFault) → HasPrinted old new fault → errors new ≡ errors old
 same_errors old new fault p = ap (λ (events : List Event). errors events) p.calls ∙ errors_prints p.prints old p.all

@@ -1,9 +1,9 @@
 -- A file that is written in its place, in two pieces.
-use Rattle.std.proofs.Common.{◌≡◌, ℕ, zero, suc, true, List, [], ◌∷◌, ◌++◌, length, take, drop, Some, refl, ap, sym, append_assoc}
-use Rattle.std.proofs.lemmas.List.{take-append-drop}
-use Rattle.hosts.specs.Event.{WriteOver, FinishOver}
+use Rattle.std.proofs.Common.{◌≡◌, ◌≤◌, ℕ, zero, suc, true, List, [], ◌∷◌, ◌++◌, length, take, drop, Some, refl, ap, sym, append_assoc}
+use Rattle.std.proofs.lemmas.List.{take-append-drop, take_all as take_long, drop_all}
+use Rattle.hosts.specs.Event.{FinishOver}
 use Rattle.hosts.specs.Place.{Step, Remainder, Just, replay, with_bytes_over, remainder_with_bytes_over, cut_left}
-use Rattle.hosts.specs.Saving.{IsWrittenOver}
+use Rattle.hosts.specs.Saving.{IsWrittenOver, over_step, with_rest}
 
 take_all : (xs ys : List ℕ) → take (length xs) (xs ++ ys) ≡ xs
 take_all [] ys = refl
@@ -29,9 +29,6 @@ over_left bytes head rest was seen is parts = rw is (rw parts (ap (λ found. Jus
 head_left : (bytes was : List ℕ) (seen : Remainder) → seen ≡ Just (Some was) → cut_left (length bytes) (remainder_with_bytes_over 0 bytes seen) ≡ Just (Some bytes)
 head_left bytes was seen is = rw is (ap (λ found. Just (Some found)) (over_head bytes was))
 
-abbrev pub over_step : ℕ → List ℕ → Step
-over_step at bytes = record { change = WriteOver; ok = true; number = at; bytes = bytes }
-
 abbrev pub finish_step : ℕ → Step
 finish_step size = record { change = FinishOver; ok = true; number = size; bytes = [] }
 
@@ -47,3 +44,7 @@ written_head bytes old start was is =
 
 pub both_parts : (bytes head rest : List ℕ) (n : ℕ) → head ≡ take n bytes → rest ≡ drop n bytes → bytes ≡ head ++ rest
 both_parts bytes head rest n front back = rw (front, back) (sym (take-append-drop n bytes))
+
+-- where no byte stands after the head, all bytes are one write
+pub head_alone : (first : ℕ) (bytes : List ℕ) (old : List Step) → length bytes ≤ first → over_step 0 bytes ∷ old ≡ over_step 0 (take first bytes) ∷ with_rest first (drop first bytes) old
+head_alone first bytes old most = rw (take_long first bytes most, drop_all first bytes most) refl

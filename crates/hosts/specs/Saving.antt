@@ -1,5 +1,5 @@
 -- What becomes of a path that is to have other bytes. `old` and `new` are the changes of the path before and after.
-use Rattle.std.specs.Prelude.{◌≡◌, ℕ, ◌+◌, Bool, true, false, not, List, [], ◌∷◌, None, Some, Result, Ok, Err, ◌⊎◌}
+use Rattle.std.specs.Prelude.{◌≡◌, ℕ, ◌+◌, Bool, true, false, not, List, [], ◌∷◌, take, drop, None, Some, Result, Ok, Err, ◌⊎◌}
 use Rattle.hosts.specs.Event.{Change, MakeBeside, DropBeside, Claim, DropClaim, Rename, WriteOver}
 use Rattle.hosts.specs.Place.{Place, Step, Remainder, Just, replay, ever}
 use Rattle.hosts.specs.declared.faults.HostFault.{HostFault}
@@ -172,20 +172,43 @@ abbrev pub replacements : List Step → ℕ
 replacements [] = 0
 replacements (s ∷ earlier) = with_replacement s.change s.ok (has_claim earlier) (replacements earlier)
 
-abbrev pub with_over : Change → ℕ → ℕ → ℕ
-with_over WriteOver at before = at
-with_over _ at before = before
+abbrev pub with_write : Change → Step → List Step → List Step
+with_write WriteOver s before = s ∷ before
+with_write _ s before = before
 
--- from which byte on the file was written over last
-abbrev pub last_over : List Step → ℕ
-last_over [] = 0
-last_over (s ∷ earlier) = with_over s.change s.number (last_over earlier)
+-- each write of the file in its place, the newest first
+abbrev pub writes_over : List Step → List Step
+writes_over [] = []
+writes_over (s ∷ earlier) = with_write s.change s (writes_over earlier)
 
-abbrev pub with_last_bytes : Change → List ℕ → List ℕ → List ℕ
-with_last_bytes WriteOver bytes before = bytes
-with_last_bytes _ bytes before = before
+-- bytes were written there from one on; or a write failed, by a fault of this number
+abbrev pub over_step : ℕ → List ℕ → Step
+over_step at bytes = record { change = WriteOver; ok = true; number = at; bytes = bytes }
 
--- the bytes with which the file was written over last
-abbrev pub last_bytes : List Step → List ℕ
-last_bytes [] = []
-last_bytes (s ∷ earlier) = with_last_bytes s.change s.bytes (last_bytes earlier)
+abbrev pub failed_write : ℕ → Step
+failed_write number = record { change = WriteOver; ok = false; number = number; bytes = [] }
+
+-- the bytes after the head are one write, if there are any
+abbrev pub with_rest : ℕ → List ℕ → List Step → List Step
+with_rest first [] before = before
+with_rest first (byte ∷ others) before = over_step first (byte ∷ others) ∷ before
+
+-- The head of a file, its bytes before `first`, was written last: the bytes after it are one write, and the head is the next. There is no other.
+abbrev pub IsHeadLast : ℕ → List ℕ → List Step → List Step → Type 0
+IsHeadLast first bytes old new = writes_over new ≡ over_step 0 (take first bytes) ∷ with_rest first (drop first bytes) (writes_over old)
+
+-- the first write failed, or that of the head did after the other; or both were made, and the file could not be brought to the disk
+abbrev pub IsCutShort : ℕ → List ℕ → List Step → List Step → Type 0
+IsCutShort first bytes old new = ((number : ℕ) × (writes_over new ≡ failed_write number ∷ writes_over old))
+    ⊎ (((number : ℕ) × (writes_over new ≡ failed_write number ∷ with_rest first (drop first bytes) (writes_over old)))
+    ⊎ IsHeadLast first bytes old new)
+
+-- where a new file may take the path, nothing is written in its place; else its head is written last
+abbrev pub IsOrdered : Bool → ℕ → List ℕ → List Step → List Step → Type 0
+IsOrdered true first bytes old new = writes_over new ≡ writes_over old
+IsOrdered false first bytes old new = IsHeadLast first bytes old new
+
+-- the same of a file that could not be written
+abbrev pub IsOrderCut : Bool → ℕ → List ℕ → List Step → List Step → Type 0
+IsOrderCut true first bytes old new = writes_over new ≡ writes_over old
+IsOrderCut false first bytes old new = IsCutShort first bytes old new

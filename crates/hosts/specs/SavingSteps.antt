@@ -3,8 +3,8 @@ use Rattle.std.specs.Prelude.{◌≡◌, ℕ, ◌<◌, Bool, false, List, ◌∷
 use Rattle.std.specs.Str.{bytes_eq}
 use Rattle.hosts.specs.Event.{Event, make_call, own_call, lock_call, write_call, sync_call, date_call}
 use Rattle.hosts.specs.Place.{Place, Step, about, replay, ever}
-use Rattle.hosts.specs.Streams.{output, errors, read, failures, may_replace, path_of_name, asked_name, has_links}
-use Rattle.hosts.specs.Saving.{IsAsItWas, IsUnmade, ClearsBeside, replacements}
+use Rattle.hosts.specs.Streams.{output, errors, read, folders, failures, may_replace, path_of_name, asked_name, has_links}
+use Rattle.hosts.specs.Saving.{IsAsItWas, IsUnmade, ClearsBeside, replacements, writes_over}
 use Rattle.hosts.specs.declared.faults.HostFault.{HostFault}
 
 -- the file beside a path has that now
@@ -27,6 +27,8 @@ pub record IsQuiet (path : List ℕ) (old new : List Event) : Type 0 where
   pub printed : output new ≡ output old
   pub told : errors new ≡ errors old
   pub reads : read new ≡ read old
+  pub keeps_folders : folders new ≡ folders old
+  pub in_place : writes_over (about path new) ≡ writes_over (about path old)
   pub answers : may_replace new ≡ may_replace old
   pub paths : path_of_name new ≡ path_of_name old
   pub names : asked_name new ≡ asked_name old

@@ -1,7 +1,8 @@
 -- What the calls of a host mean for its streams, and for what was asked of it.
 use Rattle.std.specs.Prelude.{ℕ, zero, suc, ◌+◌, Bool, true, false, List, [], ◌∷◌, ◌++◌}
-use Rattle.hosts.specs.Event.{Event, Call, Alter, OwnBeside, WriteBeside, SyncBeside, DropBeside, DateBeside, Rename, LinkNew, DropClaim, SyncFolder, Look, TakeInput, Alone, Leads, LockBeside, There, Free, Print, Tell, Terminal, Same}
+use Rattle.hosts.specs.Event.{Event, Call, Alter, OwnBeside, WriteBeside, SyncBeside, DropBeside, DateBeside, Rename, LinkNew, DropClaim, SyncFolder, Look, TakeInput, Alone, Leads, LockBeside, There, Free, MakeFolder, Print, Tell, Terminal, Same}
 use Rattle.hosts.specs.Faults.{fault_number, step_number}
+use Rattle.hosts.specs.Place.{Step, about}
 use Rattle.hosts.specs.declared.faults.HostFault.TheVariants as host
 
 abbrev pub with_printed : Call → Event → List (Bool × List ℕ) → List (Bool × List ℕ)
@@ -51,6 +52,19 @@ with_read _ e before = before
 abbrev pub read : List Event → List Event
 read [] = []
 read (e ∷ earlier) = with_read e.call e (read earlier)
+
+abbrev pub with_folder : Call → Event → List (Bool × List ℕ) → List (Bool × List ℕ)
+with_folder MakeFolder e before = (e.ok, e.name) ∷ before
+with_folder _ e before = before
+
+-- the names of the folders that were to be made, the newest first, and whether each was
+abbrev pub folders : List Event → List (Bool × List ℕ)
+folders [] = []
+folders (e ∷ earlier) = with_folder e.call e (folders earlier)
+
+-- the changes of the file of a path and of the one beside it, and those folders
+abbrev pub changes_at : List ℕ → List Event → List Step × List (Bool × List ℕ)
+changes_at path events = (about path events, folders events)
 
 -- a call that failed, or that answered that a path no longer leads to the held file; another answer to a question is no failure
 abbrev pub with_failure : Call → Bool → ℕ → ℕ

@@ -2,7 +2,7 @@ ghost use Rattle.std.specs.Prelude.{◌≡◌, ◌<◌, ℕ, List, [], ◌∷◌
 ghost use Rattle.hosts.specs.Event.{resolve_call, hold_call, drop_seconds_call};
 ghost use Rattle.hosts.specs.Place.{about};
 ghost use Rattle.hosts.specs.Faults.{fault_number};
-ghost use Rattle.hosts.specs.Streams.{output, errors, read, failures, last_fault};
+ghost use Rattle.hosts.specs.Streams.{output, errors, read, folders, failures, last_fault};
 
 use crate::{Host, HostFault};
 use std::alloc::Global;
@@ -27,6 +27,7 @@ pub fn hold_file<H: Host>(host: &mut H, alloc: Global, name: &str) -> Result<Hel
     ensures output { output (H.history host.new) ≡ output (H.history host.old) }
     ensures errors { errors (H.history host.new) ≡ errors (H.history host.old) }
     ensures read { read (H.history host.new) ≡ read (H.history host.old) }
+    ensures folders { folders (H.history host.new) ≡ folders (H.history host.old) }
 {
     let path = host.resolve(alloc, name)?;
     let has_lock = host.hold(alloc, path.as_str())?;

@@ -5,7 +5,7 @@ ghost use Rattle.hosts.specs.Faults.{fault_number};
 ghost use Rattle.hosts.specs.Place.{about};
 ghost use Rattle.hosts.specs.Saving.{Lays, ClearsBeside, StaysAsItWas, replacements};
 ghost use Rattle.hosts.specs.SavingSteps.{AreDatedCalls, IsQuiet, laid_calls};
-ghost use Rattle.hosts.specs.Streams.{output, errors, read, failures, last_fault};
+ghost use Rattle.hosts.specs.Streams.{output, errors, read, folders, failures, last_fault};
 ghost use Rattle.hosts.specs.Times.{file_time};
 
 use crate::faults::{rename_cause, step_fault};
@@ -40,6 +40,7 @@ pub fn lay<H: Host>(
     ensures output { output (H.history host.new) ≡ output (H.history host.old) }
     ensures errors { errors (H.history host.new) ≡ errors (H.history host.old) }
     ensures read { read (H.history host.new) ≡ read (H.history host.old) }
+    ensures folders { folders (H.history host.new) ≡ folders (H.history host.old) }
 {
     if !replaces && host.is_there(name) {
         return Err(HostFault::Busy);

@@ -4,7 +4,7 @@ ghost use Rattle.hosts.specs.Faults.{fault_number};
 ghost use Rattle.hosts.specs.Place.{Step, about};
 ghost use Rattle.hosts.specs.Saving.{Makes, ClearsBeside, AnyMomentOf, replacements};
 ghost use Rattle.hosts.specs.SavingSteps.{Takes, IsQuiet, new_calls};
-ghost use Rattle.hosts.specs.Streams.{output, errors, read, failures, last_fault, path_of_name, asked_name, has_links};
+ghost use Rattle.hosts.specs.Streams.{output, errors, read, folders, failures, last_fault, path_of_name, asked_name, has_links};
 ghost use Rattle.hosts.specs.Times.{beside_time, file_time};
 
 use crate::faults::{rename_cause, step_fault};
@@ -33,6 +33,7 @@ pub fn make<H: Host>(
     ensures output { output (H.history host.new) ≡ output (H.history host.old) }
     ensures errors { errors (H.history host.new) ≡ errors (H.history host.old) }
     ensures read { read (H.history host.new) ≡ read (H.history host.old) }
+    ensures folders { folders (H.history host.new) ≡ folders (H.history host.old) }
 {
     match host.free_path(alloc, name) {
         Ok(path) => make_at(host, alloc, path.as_str(), bytes),
@@ -60,6 +61,7 @@ pub fn make_at<H: Host>(
     ensures output { output (H.history host.new) ≡ output (H.history host.old) }
     ensures errors { errors (H.history host.new) ≡ errors (H.history host.old) }
     ensures read { read (H.history host.new) ≡ read (H.history host.old) }
+    ensures folders { folders (H.history host.new) ≡ folders (H.history host.old) }
     ensures path { path_of_name (H.history host.new) ≡ path_of_name (H.history host.old) }
     ensures asked { asked_name (H.history host.new) ≡ asked_name (H.history host.old) }
 {
@@ -106,6 +108,7 @@ pub(crate) fn take_path<H: Host>(host: &mut H, path: &str) -> Result<(), HostFau
     ensures output { output (H.history host.new) ≡ output (H.history host.old) }
     ensures errors { errors (H.history host.new) ≡ errors (H.history host.old) }
     ensures read { read (H.history host.new) ≡ read (H.history host.old) }
+    ensures folders { folders (H.history host.new) ≡ folders (H.history host.old) }
     ensures path { path_of_name (H.history host.new) ≡ path_of_name (H.history host.old) }
     ensures asked { asked_name (H.history host.new) ≡ asked_name (H.history host.old) }
     ensures links { has_links (H.history host.new) ≡ has_links (H.history host.old) }

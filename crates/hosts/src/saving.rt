@@ -1,11 +1,11 @@
-ghost use Rattle.std.specs.Prelude.{◌≡◌, ◌<◌, ◌≤◌, ℕ, List, [], ◌∷◌, false, IfErr, OnErr, OnOk, take};
+ghost use Rattle.std.specs.Prelude.{◌≡◌, ◌<◌, ◌≤◌, ℕ, List, [], ◌∷◌, false, IfErr, OnErr, OnOk};
 ghost use Rattle.std.specs.Str.{bytes_eq};
 ghost use Rattle.hosts.specs.Event.{drop_call};
 ghost use Rattle.hosts.specs.Faults.{IsWhy, fault_number};
 ghost use Rattle.hosts.specs.Place.{Step, about};
-ghost use Rattle.hosts.specs.Saving.{Saves, SavesFile, ClearsBeside, AnyMoment, AnyMomentOf, IsPlaceNoted, IsNotedBefore, IsWrittenOver, still_may, last_bytes, last_over};
+ghost use Rattle.hosts.specs.Saving.{Saves, SavesFile, ClearsBeside, AnyMoment, AnyMomentOf, IsPlaceNoted, IsNotedBefore, IsWrittenOver, IsHeadLast, IsCutShort, IsOrdered, IsOrderCut, still_may, writes_over};
 ghost use Rattle.hosts.specs.SavingSteps.{IsQuiet, ready_calls};
-ghost use Rattle.hosts.specs.Streams.{before_told, output, errors, read, failures, last_fault, may_replace};
+ghost use Rattle.hosts.specs.Streams.{before_told, output, errors, read, folders, failures, last_fault, may_replace};
 ghost use Rattle.hosts.specs.declared.faults.Unwritten.TheVariants.{AsItWas};
 
 use crate::faults::step_fault;
@@ -22,6 +22,7 @@ pub fn save<H: Host>(
 ) -> Result<Durability, RenameFault>
     ensures saves { Saves result bytes.now (about path.now (H.history host.old)) (about path.now (H.history host.new)) }
     ensures beside { ClearsBeside (about path.now (H.history host.old)) (about path.now (H.history host.new)) }
+    ensures in_place { writes_over (about path.now (H.history host.new)) ≡ writes_over (about path.now (H.history host.old)) }
     ensures any_moment { AnyMoment bytes.now (about path.now (H.history host.old)) (about path.now (H.history host.new)) }
     ensures cause { OnErr result (failures (H.history host.old) < failures (H.history host.new)) }
     ensures others { (other : List ℕ) → bytes_eq path.now other ≡ false
@@ -29,6 +30,7 @@ pub fn save<H: Host>(
     ensures output { output (H.history host.new) ≡ output (H.history host.old) }
     ensures errors { errors (H.history host.new) ≡ errors (H.history host.old) }
     ensures read { read (H.history host.new) ≡ read (H.history host.old) }
+    ensures folders { folders (H.history host.new) ≡ folders (H.history host.old) }
     ensures alone { may_replace (H.history host.new) ≡ still_may result (may_replace (H.history host.old)) }
     ensures why { IfErr result (λ fault. IsWhy fault (last_fault (H.history host.new))) }
 {
@@ -102,9 +104,9 @@ pub fn write_over<H: Host>(
     first: usize,
     bytes: &[u8],
 ) -> Result<(), HostFault>
-    ensures head_last { OnOk result (last_over (about path.now (H.history host.new)) ≡ 0) }
     ensures told { before_told (H.history host.new) ≡ before_told (H.history host.old) }
-    ensures head { OnOk result (last_bytes (about path.now (H.history host.new)) ≡ take first bytes.now) }
+    ensures head_last { OnOk result (IsHeadLast first bytes.now (about path.now (H.history host.old)) (about path.now (H.history host.new))) }
+    ensures cut_short { OnErr result (IsCutShort first bytes.now (about path.now (H.history host.old)) (about path.now (H.history host.new))) }
     ensures over { OnOk result (IsWrittenOver bytes.now (about path.now (H.history host.old)) (about path.now (H.history host.new))) }
     ensures beside { ClearsBeside (about path.now (H.history host.old)) (about path.now (H.history host.new)) }
     ensures cause { OnErr result (failures (H.history host.old) < failures (H.history host.new)) }
@@ -113,6 +115,7 @@ pub fn write_over<H: Host>(
     ensures output { output (H.history host.new) ≡ output (H.history host.old) }
     ensures errors { errors (H.history host.new) ≡ errors (H.history host.old) }
     ensures read { read (H.history host.new) ≡ read (H.history host.old) }
+    ensures folders { folders (H.history host.new) ≡ folders (H.history host.old) }
     ensures alone { may_replace (H.history host.new) ≡ may_replace (H.history host.old) }
     ensures why { IfErr result (λ fault. fault_number fault ≡ last_fault (H.history host.new)) }
 {
@@ -138,7 +141,8 @@ pub fn save_file<H: Host>(
     bytes: &[u8],
     note: &str,
 ) -> Result<Durability, SaveFault>
-    ensures head { OnOk result (may_replace (H.history host.new) ≡ false → last_bytes (about path.now (H.history host.new)) ≡ take first bytes.now) }
+    ensures order { OnOk result (IsOrdered (may_replace (H.history host.new)) first bytes.now (about path.now (H.history host.old)) (about path.now (H.history host.new))) }
+    ensures order_cut { OnErr result (IsOrderCut (may_replace (H.history host.new)) first bytes.now (about path.now (H.history host.old)) (about path.now (H.history host.new))) }
     ensures saves { SavesFile result (may_replace (H.history host.new)) bytes.now (about path.now (H.history host.old)) (about path.now (H.history host.new)) }
     ensures beside { ClearsBeside (about path.now (H.history host.old)) (about path.now (H.history host.new)) }
     ensures any_moment { AnyMomentOf (may_replace (H.history host.new)) bytes.now (about path.now (H.history host.old)) (about path.now (H.history host.new)) }
@@ -149,6 +153,7 @@ pub fn save_file<H: Host>(
     ensures noted { IsPlaceNoted (may_replace (H.history host.new)) note.now (errors (H.history host.old)) (errors (H.history host.new)) }
     ensures noted_first { IsNotedBefore (may_replace (H.history host.new)) note.now (about path.now (H.history host.old)) (about path.now (before_told (H.history host.new))) }
     ensures read { read (H.history host.new) ≡ read (H.history host.old) }
+    ensures folders { folders (H.history host.new) ≡ folders (H.history host.old) }
     ensures why { IfErr result (λ fault. fault_number fault.why ≡ last_fault (H.history host.new)) }
 {
     let is_alone = match host.is_alone(path) {
@@ -183,7 +188,8 @@ fn save_over<H: Host>(
     bytes: &[u8],
     note: &str,
 ) -> Result<Durability, SaveFault>
-    ensures head { OnOk result (last_bytes (about path.now (H.history host.new)) ≡ take first bytes.now) }
+    ensures head_last { OnOk result (IsHeadLast first bytes.now (about path.now (H.history host.old)) (about path.now (H.history host.new))) }
+    ensures cut_short { OnErr result (IsCutShort first bytes.now (about path.now (H.history host.old)) (about path.now (H.history host.new))) }
     ensures saves { SavesFile result false bytes.now (about path.now (H.history host.old)) (about path.now (H.history host.new)) }
     ensures beside { ClearsBeside (about path.now (H.history host.old)) (about path.now (H.history host.new)) }
     ensures cause { OnErr result (failures (H.history host.old) < failures (H.history host.new)) }
@@ -193,6 +199,7 @@ fn save_over<H: Host>(
     ensures noted { IsPlaceNoted false note.now (errors (H.history host.old)) (errors (H.history host.new)) }
     ensures noted_first { IsNotedBefore false note.now (about path.now (H.history host.old)) (about path.now (before_told (H.history host.new))) }
     ensures read { read (H.history host.new) ≡ read (H.history host.old) }
+    ensures folders { folders (H.history host.new) ≡ folders (H.history host.old) }
     ensures alone { may_replace (H.history host.new) ≡ may_replace (H.history host.old) }
     ensures why { IfErr result (λ fault. fault_number fault.why ≡ last_fault (H.history host.new)) }
 {
@@ -214,6 +221,7 @@ fn note_place<H: Host>(host: &mut H, note: &str)
     ensures noted_first { (path : List ℕ) → IsNotedBefore false note.now (about path (H.history host.old)) (about path (before_told (H.history host.new))) }
     ensures output { output (H.history host.new) ≡ output (H.history host.old) }
     ensures read { read (H.history host.new) ≡ read (H.history host.old) }
+    ensures folders { folders (H.history host.new) ≡ folders (H.history host.old) }
     ensures alone { may_replace (H.history host.new) ≡ may_replace (H.history host.old) }
 {
     if note.is_empty() {

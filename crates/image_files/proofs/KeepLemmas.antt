@@ -1,7 +1,8 @@
 -- The steps that read and print change no file.
 use Rattle.std.proofs.Common.{◌≡◌, ◌∙◌, ℕ, Bool, true, false, Option, None, Some, Result, Ok, Err, List, [], ◌∷◌, ap, refl, inl, inr}
 use Rattle.hosts.specs.Event.{Event, Look, TimeOf, failed_call}
-use Rattle.hosts.specs.Place.{about}
+use Rattle.hosts.specs.Place.{Step, about}
+use Rattle.hosts.specs.Streams.{folders, changes_at}
 use Rattle.hosts.specs.declared.faults.HostFault.TheVariants as host
 use Rattle.outcome.specs.Hints.{image_note}
 use Rattle.outcome.specs.declared.contents.Content.TheVariants as content
@@ -40,8 +41,18 @@ use Rattle.image_files.specs.declared.reading.ImagePlace.{ImagePlace}
 use Rattle.image_files.proofs.ReasonLemmas.{unless-keeps}
 use Rattle.outcome.specs.declared.reasons.Reason.TheVariants as reason
 
-pub same : {old new : List Event} (path : List ℕ) → new ≡ old → about path new ≡ about path old
-same path is = ap (λ (events : List Event). about path events) is
+pub same : {old new : List Event} (path : List ℕ) → new ≡ old → changes_at path new ≡ changes_at path old
+same path is = ap (λ (events : List Event). changes_at path events) is
+
+-- the part of it on the file, and that on the folders
+pub of-file : {a b : List Step × List (Bool × List ℕ)} (path : List ℕ) → a ≡ b → a.0 ≡ b.0
+of-file path is = ap (λ (both : List Step × List (Bool × List ℕ)). both.0) is
+
+pub of-folders : {a b : List Step × List (Bool × List ℕ)} (path : List ℕ) → a ≡ b → a.1 ≡ b.1
+of-folders path is = ap (λ (both : List Step × List (Bool × List ℕ)). both.1) is
+
+pub of-both : (path : List ℕ) (old new : List Event) → about path new ≡ about path old → folders new ≡ folders old → changes_at path new ≡ changes_at path old
+of-both path old new file made = ap (λ (steps : List Step). (steps, folders new)) file ∙ ap (λ (all : List (Bool × List ℕ)). (about path old, all)) made
 
 pub then-keeps : {A B : Type 0} (first : List Event → Result A Ending → List Event → Type 0) (next : A → List Event → Result B Ending → List Event → Type 0)
     → KeepsFiles first → ((given : A) → KeepsFiles (next given)) → KeepsFiles (Then first next)
@@ -75,11 +86,11 @@ prints-keeps bytes old (Err Unreported) new p path = absurd p
 prints-keeps bytes old (Err NoReader) new p path = same path p
 prints-keeps bytes old (Err Misuse) new p path = absurd p
 
-tells-keeps : (path : List ℕ) (note : Option ImageNote) (old new : List Event) → TellsOfImage note old new → about path new ≡ about path old
+tells-keeps : (path : List ℕ) (note : Option ImageNote) (old new : List Event) → TellsOfImage note old new → changes_at path new ≡ changes_at path old
 tells-keeps path None old new p = same path p
 tells-keeps path (Some note) old new p = same path p.1
 
-pub refuses-keeps : (path : List ℕ) (why : ArchiveFault) (size : ℕ) (old : List Event) (ending : Ending) (new : List Event) → Refuses why size old ending new → about path new ≡ about path old
+pub refuses-keeps : (path : List ℕ) (why : ArchiveFault) (size : ℕ) (old : List Event) (ending : Ending) (new : List Event) → Refuses why size old ending new → changes_at path new ≡ changes_at path old
 refuses-keeps path why size old ending new p = tells-keeps path (image_note size why) old new p.1
 
 -- ## What is read
@@ -97,7 +108,7 @@ finds-keeps Both body old (Ok image) new p path = absurd p
 finds-keeps Both body old (Err ending) new (is, ok, p) path = same path p
 
 -- the notes on what is mended are none
-pub lines-keep : (lines : List ℕ) (old new : List Event) → TellsLines lines old new → (path : List ℕ) → about path new ≡ about path old
+pub lines-keep : (lines : List ℕ) (old new : List Event) → TellsLines lines old new → (path : List ℕ) → changes_at path new ≡ changes_at path old
 lines-keep [] old new p path = same path p
 lines-keep (c ∷ lines) old new p path = same path p.1
 
@@ -136,11 +147,11 @@ input-keeps old (Err ending) new (inl (fault, is, p)) path = same path p
 input-keeps old (Err ending) new (inr (bytes, many, inl (is, ok, p))) path = same path p
 input-keeps old (Err ending) new (inr (bytes, many, inr (is, p))) path = same path p
 
-noted-lock : (has ok : Bool) (path : List ℕ) (old : List Event) → about path (with_lock_note content.Image has ok old) ≡ about path old
+noted-lock : (has ok : Bool) (path : List ℕ) (old : List Event) → changes_at path (with_lock_note content.Image has ok old) ≡ changes_at path old
 noted-lock true ok path old = refl
 noted-lock false ok path old = refl
 
-held-at : (name path : List ℕ) (place : ImagePlace) (is_held : Bool) (old new : List Event) → HoldsAt name place is_held old new → about path new ≡ about path old
+held-at : (name path : List ℕ) (place : ImagePlace) (is_held : Bool) (old new : List Event) → HoldsAt name place is_held old new → changes_at path new ≡ changes_at path old
 held-at name path place true old new (has, ok, p) = same path p ∙ noted-lock has ok path (hold_calls name place.path.bytes.items has old)
 held-at name path place false old new (idle, failed, why, may) = idle.files path
 
@@ -154,12 +165,12 @@ holds-keeps name old (Err ending) new (inr (is, p)) path = same path p
 -- ## Tries
 
 busy-keeps : {A : Type 0} (command : List Event → Result A Ending → List Event → Type 0) → KeepsFiles command → (tries : List (List Event)) (old new : List Event) → AreBusy command tries old new
-    → (path : List ℕ) → about path new ≡ about path old
+    → (path : List ℕ) → changes_at path new ≡ changes_at path old
 busy-keeps command keeps [] old new is path = same path is
 busy-keeps command keeps (before ∷ earlier) old new (busy, after, last, is) path =
     same path is ∙ keeps before (Err (Busy content.Image)) after last path ∙ busy-keeps command keeps earlier old before busy path
 
-told-keeps : {A : Type 0} (name : List ℕ) (result : Result A Ending) (old new : List Event) → TellsBusy name result old new → (path : List ℕ) → about path new ≡ about path old
+told-keeps : {A : Type 0} (name : List ℕ) (result : Result A Ending) (old new : List Event) → TellsBusy name result old new → (path : List ℕ) → changes_at path new ≡ changes_at path old
 told-keeps name result old new (inl p) path = same path p.1
 told-keeps name result old new (inr p) path = unless-keeps false (reason.Fault host.Busy) name old new p.1 path
 

@@ -2,7 +2,7 @@
 use Rattle.std.proofs.Common.{◌≡◌, ◌∙◌, ◌∷◌, ℕ, Bool, true, false, Option, None, Some, Result, Ok, Err, List, ap, inl, inr}
 use Rattle.std.specs.Str.{bytes_eq}
 use Rattle.hosts.specs.Event.{Event, tell_call}
-use Rattle.hosts.specs.Place.{about}
+use Rattle.hosts.specs.Streams.{changes_at}
 use Rattle.image_kind.specs.Keeping.{keeps_kind}
 use Rattle.image_kind.specs.declared.judging.Judgment.{Judgment}
 use Rattle.outcome.specs.Hints.{image_note}
@@ -22,11 +22,11 @@ use Rattle.image_files.specs.Laws.{KeepsFiles, ChangesNothing, LeavesFiles, is_r
 use Rattle.image_files.proofs.KeepLemmas.{opens-keeps}
 
 pub same : (old new : List Event) → new ≡ old → ChangesNothing old new
-same old new is = λ path. ap (λ (events : List Event). about path events) is
+same old new is = λ path. ap (λ (events : List Event). changes_at path events) is
 
 -- after a note, or after nothing
 pub told : (ok : Bool) (text : List ℕ) (old new : List Event) → new ≡ tell_call ok text ∷ old → ChangesNothing old new
-told ok text old new is = λ path. ap (λ (events : List Event). about path events) is
+told ok text old new is = λ path. ap (λ (events : List Event). changes_at path events) is
 
 pub then-leaves : {A B : Type 0} (first : List Event → Result A Ending → List Event → Type 0) (next : A → List Event → Result B Ending → List Event → Type 0)
     → KeepsFiles first → ((a : A) → LeavesFiles (next a)) → LeavesFiles (Then first next)

@@ -3,8 +3,7 @@ use Rattle.std.proofs.Common.{◌≡◌, ◌∙◌, ℕ, Bool, true, false, Opti
 use Rattle.std.specs.Prelude.{MatchResult}
 use Rattle.std.specs.Global.{Vec}
 use Rattle.hosts.specs.Event.{Event, Look, failed_call, look_call}
-use Rattle.hosts.specs.Place.{about}
-use Rattle.hosts.specs.Streams.{output}
+use Rattle.hosts.specs.Streams.{output, changes_at}
 use Rattle.hosts.specs.declared.faults.HostFault.{HostFault}
 use Rattle.outcome.specs.declared.endings.Ending.{Ending}
 use Rattle.disk_layouts.specs.declared.layouts.Layout.{Layout}
@@ -31,11 +30,11 @@ looks name shown old between new (Ok bytes) (Err ending) called (many, long) = i
 looks name shown old between new (Err fault) (Err ending) called (ends, told) = inl (fault, ends, rw called at told)
 
 -- a file that is not read leaves each as it was, and what was printed
-pub unread-files : (name shown : List ℕ) (old : List Event) (ending : Ending) (new : List Event) → IsUnread name shown old ending new → (path : List ℕ) → about path new ≡ about path old
+pub unread-files : (name shown : List ℕ) (old : List Event) (ending : Ending) (new : List Event) → IsUnread name shown old ending new → (path : List ℕ) → changes_at path new ≡ changes_at path old
 unfolding IsUnread
 unread-files name shown old ending new (inl (fault, is, p)) path = unless-keeps (is_want_of_memory fault) (Fault fault) shown (failed_call Look name fault ∷ old) new p path
-unread-files name shown old ending new (inr (bytes, many, inl (is, ok, p))) path = ap (λ (events : List Event). about path events) p
-unread-files name shown old ending new (inr (bytes, many, inr (is, p))) path = ap (λ (events : List Event). about path events) p
+unread-files name shown old ending new (inr (bytes, many, inl (is, ok, p))) path = ap (λ (events : List Event). changes_at path events) p
+unread-files name shown old ending new (inr (bytes, many, inr (is, p))) path = ap (λ (events : List Event). changes_at path events) p
 
 pub unread-output : (name shown : List ℕ) (old : List Event) (ending : Ending) (new : List Event) → IsUnread name shown old ending new → output new ≡ output old
 unfolding IsUnread
@@ -49,10 +48,10 @@ unfolding IsUnheldImage
 unheld-output name old ending new (inl (fault, unheld, (between, idle, failed, why, told))) = unless-output (is_untold Image fault) (Fault fault) name between new told ∙ idle.prints
 unheld-output name old ending new (inr (is, p)) = ap output p
 
-pub unheld-files : (name : List ℕ) (old : List Event) (ending : Ending) (new : List Event) → IsUnheldImage name old ending new → (path : List ℕ) → about path new ≡ about path old
+pub unheld-files : (name : List ℕ) (old : List Event) (ending : Ending) (new : List Event) → IsUnheldImage name old ending new → (path : List ℕ) → changes_at path new ≡ changes_at path old
 unfolding IsUnheldImage
 unheld-files name old ending new (inl (fault, unheld, (between, idle, failed, why, told))) path = unless-keeps (is_untold Image fault) (Fault fault) name between new told path ∙ idle.files path
-unheld-files name old ending new (inr (is, p)) path = ap (λ (events : List Event). about path events) p
+unheld-files name old ending new (inr (is, p)) path = ap (λ (events : List Event). changes_at path events) p
 
 -- and so does one that is held
 pub held-output : (name : List ℕ) (place : ImagePlace) (is_held : Bool) (old new : List Event) → HoldsAt name place is_held old new → output new ≡ output old

@@ -3,8 +3,7 @@ use Rattle.std.specs.Prelude.{◌≡◌, ◌≢◌, ◌⊎◌, ◌<◌, ◌≤�
 use Rattle.std.specs.Global.{Vec}
 use Rattle.hosts.specs.Event.{Event, Look, failed_call, resolve_call, hold_call, drop_seconds_call, look_call, tell_call}
 use Rattle.hosts.specs.Faults.{class_of, fault_number}
-use Rattle.hosts.specs.Place.{about}
-use Rattle.hosts.specs.Streams.{output, errors, read, failures, last_fault}
+use Rattle.hosts.specs.Streams.{output, errors, read, changes_at, failures, last_fault}
 use Rattle.hosts.specs.declared.faults.FaultClass.{FaultClass}
 use Rattle.hosts.specs.declared.faults.FaultClass.TheVariants as class
 use Rattle.hosts.specs.declared.faults.HostFault.{HostFault}
@@ -46,9 +45,9 @@ use Rattle.image_files.specs.declared.reading.ImagePlace.{ImagePlace}
 use Rattle.image_files.specs.declared.images.Image.{Image as Opened}
 use Rattle.image_files.specs.declared.mending.ImageReading.{ImageReading}
 
--- no file was changed, nothing was printed, and nothing was read
+-- no file was changed, no folder was made, nothing was printed, and nothing was read
 pub record IsIdle (old new : List Event) : Type 0 where
-  pub files : (path : List ℕ) → about path new ≡ about path old
+  pub files : (path : List ℕ) → changes_at path new ≡ changes_at path old
   pub prints : output new ≡ output old
   pub tells : errors new ≡ errors old
   pub reads : read new ≡ read old

@@ -1,15 +1,16 @@
 -- How an image file gets another image.
-use Rattle.std.specs.Prelude.{◌≡◌, ◌≢◌, ◌⊎◌, ◌<◌, ℕ, Bool, true, false, Option, None, Some, Result, Ok, Err, List, ◌∷◌, ◌++◌, length}
+use Rattle.std.specs.Prelude.{◌≡◌, ◌≢◌, ◌⊎◌, ◌<◌, ℕ, Bool, true, false, Option, None, Some, Result, Ok, Err, List, ◌∷◌, ◌++◌, ◌*◌, length}
 use Rattle.std.specs.Str.{bytes_eq}
 use Rattle.hosts.specs.Event.{Event, print_call}
 use Rattle.hosts.specs.Faults.{fault_number}
 use Rattle.hosts.specs.Place.{about}
-use Rattle.hosts.specs.Saving.{KeepsFile, ClearsBeside, StaysAsItWas, AnyMomentOf, IsPlaceNoted}
-use Rattle.hosts.specs.Streams.{output, errors, read, failures, last_fault, may_replace}
+use Rattle.hosts.specs.Saving.{KeepsFile, ClearsBeside, StaysAsItWas, AnyMomentOf, IsCutShort, IsOrdered, IsPlaceNoted}
+use Rattle.hosts.specs.Streams.{output, errors, read, folders, failures, last_fault, may_replace}
 use Rattle.hosts.specs.declared.faults.Durability.{Durability}
 use Rattle.hosts.specs.declared.faults.Durability.TheVariants.{Certain, Unknown}
 use Rattle.hosts.specs.declared.faults.HostFault.{HostFault}
 use Rattle.hosts.specs.declared.faults.Unwritten.TheVariants as unwritten
+use Rattle.word12.specs.declared.sizes.TheConstants.{BLOCK, FIRST_FILE_BLOCK}
 use Rattle.disk_layouts.specs.Disks.{image_size}
 use Rattle.disk_layouts.specs.Files.{Disk, HasLaid}
 use Rattle.image_kind.specs.Keeping.{keeps_kind}
@@ -56,21 +57,27 @@ abbrev pub HasNoRoom : Option Parts → List ℕ → Type 0
 HasNoRoom None body = ⊥
 HasNoRoom (Some parts) body = length body ≢ length parts.body
 
--- No file but the one at a path was changed, nothing was printed on standard output, and nothing was read. No file is left beside the path,
--- unless it could not be taken away.
+-- how many bytes of a volume stand before its files: the first block, and its directory
+abbrev pub directory_size : ℕ
+directory_size = FIRST_FILE_BLOCK * BLOCK * 2
+
+-- No file but the one at a path was changed, no folder was made, nothing was printed on standard output, and nothing was read. No file is left
+-- beside the path, unless it could not be taken away.
 pub record TouchesOnly (path : List ℕ) (old new : List Event) : Type 0 where
   pub others : (other : List ℕ) → bytes_eq path other ≡ false → about other new ≡ about other old
   pub beside : ClearsBeside (about path old) (about path new)
   pub prints : output new ≡ output old
   pub reads : read new ≡ read old
+  pub keeps_folders : folders new ≡ folders old
 
 -- The file at a path has these bytes now, and after a crash too, unless a note says that this is not known. At each moment meanwhile a crash
 -- left what it might have left before, or these bytes, whole. Where the file could only be written in its place, nothing is promised of a
--- crash meanwhile.
+-- crash meanwhile. So many bytes at its begin are then written last, with the directory of a volume that begins there.
 pub record HasSaved (content : Content) (path file : List ℕ) (old new : List Event) : Type 0 where
   pub durability : Durability
   pub kept : KeepsFile (may_replace new) durability file (about path old) (about path new)
   pub moments : AnyMomentOf (may_replace new) file (about path old) (about path new)
+  pub order : IsOrdered (may_replace new) directory_size file (about path old) (about path new)
   pub noted : List (Bool × List ℕ)
   pub place : IsPlaceTold (may_replace new) content (errors old) noted
   pub sync : IsSyncTold content durability noted (errors new)
@@ -86,9 +93,10 @@ pub record IsUnsaved (content : Content) (path file : List ℕ) (fault : HostFau
   pub only : TouchesOnly path old new
 
 -- The file at a path, which could only be written in its place, may have a part of what it was to have, since a call failed by this fault. A
--- note said before that it is written so, now or at an earlier save.
-pub record IsInPart (content : Content) (path : List ℕ) (fault : HostFault) (old new : List Event) : Type 0 where
+-- note said before that it is written so, now or at an earlier save. Its begin was written, if it was, after the rest.
+pub record IsInPart (content : Content) (path file : List ℕ) (fault : HostFault) (old new : List Event) : Type 0 where
   pub in_place : may_replace new ≡ false
+  pub order : IsCutShort directory_size file (about path old) (about path new)
   pub cause : failures old < failures new
   pub why : fault_number fault ≡ last_fault new
   pub place : (errors new ≡ errors old) ⊎ IsPlaceTold false content (errors old) (errors new)
@@ -100,7 +108,7 @@ Writes content path name file old (Ok it) new = HasSaved content path file old n
 Writes content path name file old (Err (NotWritten it unwritten.AsItWas)) new =
     (it ≡ content) × (fault : HostFault) × (between : List Event) × IsUnsaved content path file fault old between × TellsReason (Fault fault) name between new
 Writes content path name file old (Err (NotWritten it unwritten.InPart)) new =
-    (it ≡ content) × (fault : HostFault) × (between : List Event) × IsInPart content path fault old between × TellsReason (Fault fault) name between new
+    (it ≡ content) × (fault : HostFault) × (between : List Event) × IsInPart content path file fault old between × TellsReason (Fault fault) name between new
 Writes content path name file old (Err _) new = ⊥
 
 -- a file is read as it was with bytes that it is to have, or else the change is refused

@@ -1,7 +1,6 @@
 //! Images in files of the host that commands change.
 ghost use Rattle.std.specs.Prelude.{◌≡◌, ℕ, List};
-ghost use Rattle.hosts.specs.Place.{about};
-ghost use Rattle.hosts.specs.Streams.{output};
+ghost use Rattle.hosts.specs.Streams.{output, changes_at};
 ghost use Rattle.image_kind.specs.Margins.{margins_by};
 ghost use Rattle.image_kind.specs.Volumes as meant;
 ghost use Rattle.image_files.specs.SaveSteps.{MakesBody, WritesAround};
@@ -46,7 +45,7 @@ impl Image {
     /// changes, and standard output gets nothing.
     pub fn open<H: Host>(host: &mut H, alloc: Global, form: &ImageForm) -> Result<Image, Ending>
         ensures opens { Opens form.now (H.history host.old) result (H.history host.new) }
-        ensures files { (path : List ℕ) → about path (H.history host.new) ≡ about path (H.history host.old) }
+        ensures files { (path : List ℕ) → changes_at path (H.history host.new) ≡ changes_at path (H.history host.old) }
         ensures output { output (H.history host.new) ≡ output (H.history host.old) }
     {
         let place = hold(host, alloc, form.file.as_str())?;
@@ -173,7 +172,7 @@ fn image_in<H: Host>(
     kind: Option<ImageKind>,
 ) -> Result<Image, Ending>
     ensures makes { MakesOne place judgment (meant.volumes_with judgment.layout kind) (margins_by judgment.layout kind) file.items (H.history host.old) result (H.history host.new) }
-    ensures files { (path : List ℕ) → about path (H.history host.new) ≡ about path (H.history host.old) }
+    ensures files { (path : List ℕ) → changes_at path (H.history host.new) ≡ changes_at path (H.history host.old) }
     ensures output { output (H.history host.new) ≡ output (H.history host.old) }
 {
     let given = judgment.layout;

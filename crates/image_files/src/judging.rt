@@ -1,6 +1,5 @@
 //! How an image file is refused that may be read in two ways, or that a change would make one that is read in another way.
 ghost use Rattle.std.specs.Prelude.{◌≡◌, ℕ, List};
-ghost use Rattle.hosts.specs.Place.{about};
 ghost use Rattle.hosts.specs.Streams.{output};
 ghost use Rattle.image_files.specs.Judging.{Judges, RefusesKind};
 ghost use Rattle.image_files.specs.Judging as spec;

@@ -4,7 +4,7 @@ ghost use Rattle.std.specs.Global.{Vec};
 ghost use Rattle.std.specs.Str.{bytes_eq};
 ghost use Rattle.hosts.specs.Event.{Event};
 ghost use Rattle.hosts.specs.Place.{Place, Leaves, may_leave, about, replay};
-ghost use Rattle.hosts.specs.Streams.{may_replace};
+ghost use Rattle.hosts.specs.Streams.{may_replace, changes_at};
 ghost use Rattle.hosts.specs.declared.faults.Durability.TheVariants.{Certain};
 ghost use Rattle.hosts.specs.declared.faults.HostFault.{HostFault};
 ghost use Rattle.archive_files.specs.declared.faults.ArchiveFault.{ArchiveFault};
@@ -51,7 +51,7 @@ pub fn kept_files()
     ensures input { KeepsFiles TakesInput }
     ensures prints { (bytes : List ℕ) → KeepsFiles (Prints bytes) }
     ensures refuses { (fault : ArchiveFault) (size : ℕ) (old : List Event) (ending : Ending) (new : List Event) → Refuses fault size old ending new
-        → (path : List ℕ) → about path new ≡ about path old }
+        → (path : List ℕ) → changes_at path new ≡ changes_at path old }
 {}
 
 /// What a change saves is judged as what was read: the same volumes are meant, in the same place, and the file may be read in no other way.

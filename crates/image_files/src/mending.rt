@@ -1,7 +1,6 @@
 //! How image files are read that may have faults. Those are mended in memory, and no file changes.
 ghost use Rattle.std.specs.Prelude.{◌≡◌, ℕ, List};
-ghost use Rattle.hosts.specs.Place.{about};
-ghost use Rattle.hosts.specs.Streams.{output};
+ghost use Rattle.hosts.specs.Streams.{output, changes_at};
 ghost use Rattle.image_files.specs.Mending.{Mends, TellsLines};
 ghost use Rattle.image_files.specs.Reading.{LooksIf, LooksImage, LooksLeniently, file_named, reading_named, reading_of};
 
@@ -72,7 +71,7 @@ pub fn look_image<H: Host>(
     reading: ImageReading,
 ) -> Result<Vec<u8>, Ending>
     ensures looks { LooksImage reading name.now (H.history host.old) result (H.history host.new) }
-    ensures files { (path : List ℕ) → about path (H.history host.new) ≡ about path (H.history host.old) }
+    ensures files { (path : List ℕ) → changes_at path (H.history host.new) ≡ changes_at path (H.history host.old) }
     ensures output { output (H.history host.new) ≡ output (H.history host.old) }
 {
     let file = look_if(host, alloc, name, reading)?;

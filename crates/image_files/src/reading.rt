@@ -1,7 +1,6 @@
 //! How image files are held and read. A file that a command may change is held from before it is read until the program ends.
 ghost use Rattle.std.specs.Prelude.{◌≡◌, ℕ, List, false};
-ghost use Rattle.hosts.specs.Place.{about};
-ghost use Rattle.hosts.specs.Streams.{output};
+ghost use Rattle.hosts.specs.Streams.{output, changes_at};
 ghost use Rattle.image_files.specs.Reading.{FindsForScript, FindsOne, FindsVolume, Holds, Looks, LooksAt, RefusesDisk, looked_name, with_lock_note};
 ghost use Rattle.image_files.specs.ReadingSteps.{IsAnswer};
 
@@ -132,7 +131,7 @@ fn within<H: Host>(
 /// The image in a file that is only looked at, of the one volume that is meant. No file changes, and standard output gets nothing.
 pub fn look_at<H: Host>(host: &mut H, alloc: Global, form: &ImageForm) -> Result<Vec<u8>, Ending>
     ensures looks { LooksAt form.now (H.history host.old) result (H.history host.new) }
-    ensures files { (path : List ℕ) → about path (H.history host.new) ≡ about path (H.history host.old) }
+    ensures files { (path : List ℕ) → changes_at path (H.history host.new) ≡ changes_at path (H.history host.old) }
     ensures output { output (H.history host.new) ≡ output (H.history host.old) }
 {
     let file = look_image(host, alloc, form.file.as_str(), ImageReading::of(form))?;
@@ -149,7 +148,7 @@ pub fn one_volume_in<H: Host>(
     is_plain: bool,
 ) -> Result<Vec<u8>, Ending>
     ensures finds { FindsOne given is_plain file.items (H.history host.old) result (H.history host.new) }
-    ensures files { (path : List ℕ) → about path (H.history host.new) ≡ about path (H.history host.old) }
+    ensures files { (path : List ℕ) → changes_at path (H.history host.new) ≡ changes_at path (H.history host.old) }
     ensures output { output (H.history host.new) ≡ output (H.history host.old) }
 {
     match volumes_in(given, is_plain, &file) {

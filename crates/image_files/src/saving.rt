@@ -1,11 +1,11 @@
 //! Files of the host that get other bytes, with the notes that say how.
-ghost use Rattle.std.specs.Prelude.{◌≡◌, ◌<◌, ℕ, List, false, IfErr, OnErr};
+ghost use Rattle.std.specs.Prelude.{◌≡◌, ◌<◌, ℕ, List, false, IfErr, OnErr, OnOk};
 ghost use Rattle.std.specs.Str.{bytes_eq};
 ghost use Rattle.hosts.specs.Faults.{fault_number};
 ghost use Rattle.hosts.specs.Place.{about};
-ghost use Rattle.hosts.specs.Saving.{AnyMomentOf, ClearsBeside, SavesFile};
-ghost use Rattle.hosts.specs.Streams.{errors, failures, last_fault, may_replace, output, read};
-ghost use Rattle.image_files.specs.Saving.{IsPlaceTold, Writes};
+ghost use Rattle.hosts.specs.Saving.{AnyMomentOf, ClearsBeside, IsOrderCut, IsOrdered, SavesFile};
+ghost use Rattle.hosts.specs.Streams.{errors, failures, folders, last_fault, may_replace, output, read};
+ghost use Rattle.image_files.specs.Saving.{IsPlaceTold, Writes, directory_size};
 
 use crate::notes::tell;
 use crate::reasons::tell_reason;
@@ -54,6 +54,8 @@ fn save_noted<H: Host>(
     bytes: &[u8],
 ) -> Result<Durability, SaveFault>
     ensures saves { SavesFile result (may_replace (H.history host.new)) bytes.now (about path.now (H.history host.old)) (about path.now (H.history host.new)) }
+    ensures order { OnOk result (IsOrdered (may_replace (H.history host.new)) directory_size bytes.now (about path.now (H.history host.old)) (about path.now (H.history host.new))) }
+    ensures order_cut { OnErr result (IsOrderCut (may_replace (H.history host.new)) directory_size bytes.now (about path.now (H.history host.old)) (about path.now (H.history host.new))) }
     ensures any_moment { AnyMomentOf (may_replace (H.history host.new)) bytes.now (about path.now (H.history host.old)) (about path.now (H.history host.new)) }
     ensures beside { ClearsBeside (about path.now (H.history host.old)) (about path.now (H.history host.new)) }
     ensures cause { OnErr result (failures (H.history host.old) < failures (H.history host.new)) }
@@ -63,6 +65,7 @@ fn save_noted<H: Host>(
         → about other (H.history host.new) ≡ about other (H.history host.old) }
     ensures output { output (H.history host.new) ≡ output (H.history host.old) }
     ensures read { read (H.history host.new) ≡ read (H.history host.old) }
+    ensures folders { folders (H.history host.new) ≡ folders (H.history host.old) }
 {
     let note = FileNote::InPlace.text(content);
     save_file(host, alloc, path, DIRECTORY, bytes, note)

@@ -2,7 +2,7 @@
 use Rattle.std.proofs.Common.{◌≡◌, ◌∙◌, ℕ, ◌+◌, Bool, true, false, not, Option, None, Result, Ok, Err, List, [], ◌∷◌, length, map, inl, inr}
 use Rattle.std.specs.Global.{Vec}
 use Rattle.hosts.specs.Event.{Event}
-use Rattle.hosts.specs.Place.{about}
+use Rattle.hosts.specs.Streams.{changes_at}
 use Rattle.disk_layouts.specs.declared.layouts.Layout.{Layout}
 use Rattle.program_reports.specs.Program.{program_line}
 use Rattle.program_reports.specs.Prefixes.{with_prefixes}
@@ -27,7 +27,7 @@ use Rattle.index_commands.specs.Indexing.{ChecksWord, EndsIndex, Indexes, Indexe
 use Rattle.index_commands.specs.Refusing.{PassesOver, RefusesVolume, prefix_of}
 use Rattle.index_commands.specs.Volumes.{body_of, layouts_in, number_of}
 
-line-keeps : (path line : List ℕ) (old new : List Event) → TellsLine line old new → about path new ≡ about path old
+line-keeps : (path line : List ℕ) (old new : List Event) → TellsLine line old new → changes_at path new ≡ changes_at path old
 line-keeps path line old new (inl (utf8, ok, p)) = same path p
 line-keeps path line old new (inr p) = same path p.1
 
@@ -104,7 +104,7 @@ image-keeps looks prints columns style reading name is_refused kept old result n
 
 -- ## All images
 
-done-keeps : (path : List ℕ) (is_told : Bool) (done all : ℕ) (old new : List Event) → TellsDone is_told done all old new → about path new ≡ about path old
+done-keeps : (path : List ℕ) (is_told : Bool) (done all : ℕ) (old new : List Event) → TellsDone is_told done all old new → changes_at path new ≡ changes_at path old
 done-keeps path false done all old new p = same path p
 done-keeps path true done all old new (passed, inl p) = same path p
 done-keeps path true done all old new (passed, inr (ok, late, p)) = same path p
@@ -112,12 +112,12 @@ done-keeps path true done all old new (passed, inr (ok, late, p)) = same path p
 progress-keeps : (is_told : Bool) (done all : ℕ) → KeepsFiles (TellsProgress is_told done all)
 progress-keeps is_told done all old result new p path = done-keeps path is_told done all old new p.1
 
-begins-keeps : (path : List ℕ) (is_told : Bool) (old new : List Event) → BeginsProgress is_told old new → about path new ≡ about path old
+begins-keeps : (path : List ℕ) (is_told : Bool) (old new : List Event) → BeginsProgress is_told old new → changes_at path new ≡ changes_at path old
 begins-keeps path true old new p = same path p.1
 begins-keeps path false old new (inl p) = same path p
 begins-keeps path false old new (inr p) = same path p
 
-ends-keeps : (path : List ℕ) (is_told : Bool) (old new : List Event) → EndsProgress is_told old new → about path new ≡ about path old
+ends-keeps : (path : List ℕ) (is_told : Bool) (old new : List Event) → EndsProgress is_told old new → changes_at path new ≡ changes_at path old
 ends-keeps path false old new p = same path p
 ends-keeps path true old new (ok, p) = same path p
 

@@ -8,7 +8,7 @@ ghost use Rattle.index_commands.specs.declared.columns.LineShape.{LineShape};
 
 use image_files::laws::kept_files;
 
-/// A law: an index of images changes no file of the host, in whichever way it ends.
+/// A law: an index of images changes no file of the host and makes no folder, in whichever way it ends.
 pub fn unchanged_files()
     ensures { (style : IndexStyle) (shape : LineShape) (reading : ImageReading) (names : List (List ℕ)) → KeepsFiles (Indexes style shape reading names) }
 {

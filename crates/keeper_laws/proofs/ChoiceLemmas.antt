@@ -1,7 +1,7 @@
 -- Commands on chosen files that change no file of the host, or none where they are refused.
 use Rattle.std.proofs.Common.{◌≡◌, ◌++◌, ℕ, Result, Ok, Err, List, length, not, is_some}
 use Rattle.hosts.specs.Event.{Event}
-use Rattle.hosts.specs.Place.{about}
+use Rattle.hosts.specs.Streams.{changes_at}
 use Rattle.archive_files.specs.declared.faults.ArchiveFault.{ArchiveFault}
 use Rattle.archive_many.specs.Opened.{OpensVolume}
 use Rattle.archive_many.specs.Wishing.{first_unfound}
@@ -33,7 +33,7 @@ abbrev pub PrintsKeep : Type 0
 PrintsKeep = (bytes : List ℕ) → KeepsFiles (Prints bytes)
 
 abbrev pub RefusesKeep : Type 0
-RefusesKeep = (fault : ArchiveFault) (size : ℕ) (old : List Event) (ending : Ending) (new : List Event) → Refuses fault size old ending new → (path : List ℕ) → about path new ≡ about path old
+RefusesKeep = (fault : ArchiveFault) (size : ℕ) (old : List Event) (ending : Ending) (new : List Event) → Refuses fault size old ending new → (path : List ℕ) → changes_at path new ≡ changes_at path old
 
 pub answers-keep : RefusesKeep → {A : Type 0} (gives : Result A ArchiveFault → Type 0) (size : ℕ) → KeepsFiles (Answers gives size)
 answers-keep law gives size old (Ok it) new p = same old new p.1

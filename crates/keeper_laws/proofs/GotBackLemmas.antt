@@ -3,7 +3,7 @@ use Rattle.std.proofs.Common.{◌≡◌, ◌∙◌, ℕ, Bool, true, false, Resu
 use Rattle.std.specs.Global.{Vec}
 use Rattle.std.proofs.lemmas.Slice.Eq.{bytes_eq-Decides}
 use Rattle.hosts.specs.Event.{Event, print_call}
-use Rattle.hosts.specs.Place.{about}
+use Rattle.hosts.specs.Streams.{changes_at}
 use Rattle.archive_files.specs.declared.faults.ArchiveFault.{ArchiveFault}
 use Rattle.archive_many.specs.Putting.{PutsAll}
 use Rattle.archive_many.specs.declared.putting.ManyImage.{ManyImage}
@@ -64,7 +64,7 @@ made-stored form image files old between new before (inr it) =
       puts = it.done.0;
       begun = it.between;
       ended = stored.ended;
-      before = λ path. ap (λ (events : List Event). about path events) it.done.1 ∙ before path;
+      before = λ path. ap (λ (events : List Event). changes_at path events) it.done.1 ∙ before path;
       saves = stored.saves;
       line = stored.line;
       told = stored.told;

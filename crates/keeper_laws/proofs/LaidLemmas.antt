@@ -30,7 +30,7 @@ use Rattle.image_files.specs.Laws.{ChangesNothing}
 use Rattle.image_files.specs.Reading.{LooksAt}
 use Rattle.image_files.specs.Saving.{Prints}
 use Rattle.image_files.specs.Work.{After, Then, Purely}
-use Rattle.image_files.proofs.KeepLemmas.{looks-at-keeps}
+use Rattle.image_files.proofs.KeepLemmas.{looks-at-keeps, of-file}
 use Rattle.asked_files.specs.Texts.{is_got_noted}
 use Rattle.host_progress.specs.Progressing.{WithProgress}
 use Rattle.host_progress.proofs.KeepLemmas.{begins-never, ends-never, progress-never}
@@ -43,12 +43,19 @@ use Rattle.keeper_laws.specs.Seen.{IsSeen}
 
 -- ## One file
 
+-- each file is as it was; a folder may be made
+abbrev SameFiles : List Event → List Event → Type 0
+SameFiles old new = (path : List ℕ) → about path new ≡ about path old
+
+files-of : (old new : List Event) → ChangesNothing old new → SameFiles old new
+files-of old new same path = of-file path (same path)
+
 -- a file is at its path, and no other path is changed
 record IsLaid (path bytes : List ℕ) (old new : List Event) : Type 0 where
   now : (start : Place) → IsSeen start path new bytes
   others : (other : List ℕ) → bytes_eq path other ≡ false → about other new ≡ about other old
 
-laid-between : (path bytes : List ℕ) (old begun done new : List Event) → ChangesNothing old begun → IsLaid path bytes begun done → ChangesNothing done new → IsLaid path bytes old new
+laid-between : (path bytes : List ℕ) (old begun done new : List Event) → SameFiles old begun → IsLaid path bytes begun done → SameFiles done new → IsLaid path bytes old new
 laid-between path bytes old begun done new before l after = record {
   now = λ start. subst (λ s. (replay start s).seen ≡ Just (Some bytes)) (sym (after path)) (l.now start);
   others = λ other apart. after other ∙ l.others other apart ∙ before other;
@@ -66,7 +73,7 @@ heads one other ones others is = cc
 tails : (one other : List ℕ × List ℕ) (ones others : List (List ℕ × List ℕ)) → one ∷ ones ≡ other ∷ others → ones ≡ others
 tails one other ones others is = cc
 
-written-none : (old new : List Event) → ChangesNothing old new → AreWritten [] old new
+written-none : (old new : List Event) → SameFiles old new → AreWritten [] old new
 written-none old new same = record { each = λ before after path bytes is none start. absurd (split-none before after (path, bytes) is); others = λ path none. same path }
 
 module _ (file : List ℕ × List ℕ) (files : List (List ℕ × List ℕ)) (old mid new : List Event) (l : IsLaid file.0 file.1 old mid) (w : AreWritten files mid new) where
@@ -81,16 +88,16 @@ module _ (file : List ℕ × List ℕ) (files : List (List ℕ × List ℕ)) (ol
   written-more : AreWritten (file ∷ files) old new
   written-more = record { each = each-is; others = λ path none. w.others path none.1 ∙ l.others path none.0 }
 
-written-after : (files : List (List ℕ × List ℕ)) (old mid new : List Event) → ChangesNothing old mid → AreWritten files mid new → AreWritten files old new
+written-after : (files : List (List ℕ × List ℕ)) (old mid new : List Event) → SameFiles old mid → AreWritten files mid new → AreWritten files old new
 written-after files old mid new same w = record { each = w.each; others = λ path none. w.others path none ∙ same path }
 
-written-before : (files : List (List ℕ × List ℕ)) (old mid new : List Event) → AreWritten files old mid → ChangesNothing mid new → AreWritten files old new
+written-before : (files : List (List ℕ × List ℕ)) (old mid new : List Event) → AreWritten files old mid → SameFiles mid new → AreWritten files old new
 written-before files old mid new w same = record {
   each = λ before after path bytes is none start. subst (λ s. (replay start s).seen ≡ Just (Some bytes)) (sym (same path)) (w.each before after path bytes is none start);
   others = λ path none. same path ∙ w.others path none;
 }
 
-still : (old new : List Event) → new ≡ old → ChangesNothing old new
+still : (old new : List Event) → new ≡ old → SameFiles old new
 still old new is path = ap (λ (events : List Event). about path events) is
 
 -- ## A file that is got
@@ -126,7 +133,7 @@ not-over name path image old new (inr l) = no-answer (named_lines name (program_
 laid-told : (form : GetManyForm) (file : VolumeFile) (name path bytes : List ℕ) (seconds : Option ℕ) (done : Result (Unit {0}) HostFault) (old between new : List Event) → LaysFile path bytes seconds form.is_forced old done between
     → TellsLaid file name path done between (Ok true) new → IsLaid path bytes old new
 laid-told form file name path bytes seconds (Ok it) old between new lays tells =
-    laid-between path bytes old old between new (λ other. refl) (record { now = lays.lays; others = lays.only.others }) (tells-laid-never file name path (Ok it) between (Ok true) new tells)
+    laid-between path bytes old old between new (λ other. refl) (record { now = lays.lays; others = lays.only.others }) (files-of between new (tells-laid-never file name path (Ok it) between (Ok true) new tells))
 laid-told form file name path bytes seconds (Err fault) old between new lays tells = absurd (unlaid (line_of_laid fault) fault name path between new tells)
 
 laid-apart : (form : GetManyForm) (file : VolumeFile) (name path bytes : List ℕ) (seconds : Option ℕ) (old new : List Event) → LaysApart form file name path bytes seconds old (Ok true) new → IsLaid path bytes old new
@@ -170,12 +177,12 @@ given-file form blocks file old new (inr b) = named b.after
         pathed (inl ends) = absurd ends
         pathed (inr p) = at-path n.given.bytes.items p.given.bytes.items n.between p.between n.done.0 p.done.0 (p.done.1 ∙ n.done.1 ∙ b.done.1) p.after
 
-notes-still : (is : Bool) (file : VolumeFile) (old : List Event) (it : Unit {0}) (new : List Event) → NotesGot is file old (Ok it) new → ChangesNothing old new
+notes-still : (is : Bool) (file : VolumeFile) (old : List Event) (it : Unit {0}) (new : List Event) → NotesGot is file old (Ok it) new → SameFiles old new
 notes-still false file old it new p = still old new p.1
 notes-still true file old it new (inl ends) = absurd ends
 notes-still true file old it new (inr n) = told n.after
   where
-    told : TellsGot n.given.bytes.items n.between (Ok it) new → ChangesNothing old new
+    told : TellsGot n.given.bytes.items n.between (Ok it) new → SameFiles old new
     told (ok, is) path = ap (λ (events : List Event). about path events) is ∙ still old n.between n.done.1 path
 
 given-noted : (form : GetManyForm) (blocks : List (List ℕ)) (file : VolumeFile) (old new : List Event) → GivesNoted form blocks file old (Ok true) new → IsGivenFor form blocks (wish.File file) old new
@@ -192,7 +199,7 @@ given-wish : (form : GetManyForm) (blocks : List (List ℕ)) (is_told : Bool) (a
 given-wish form blocks is_told all done (wish.File file) old new (inl ends) = absurd ends
 given-wish form blocks is_told all done (wish.File file) old new (inr t) =
     let g = given-noted form blocks file t.between new t.after in
-    record { host = g.host; is = g.is; laid = laid-between g.host.0 g.host.1 old t.between new new (progress-never is_told (done + 1) all old (Ok t.given) t.between t.done) g.laid (λ other. refl) }
+    record { host = g.host; is = g.is; laid = laid-between g.host.0 g.host.1 old t.between new new (files-of old t.between (progress-never is_told (done + 1) all old (Ok t.given) t.between t.done)) g.laid (λ other. refl) }
 given-wish form blocks is_told all done (wish.BadWord place) old new p = absurd (refused-word (slice_get (words_of form) place) BadName old new p)
 given-wish form blocks is_told all done (wish.NotFound place) old new p = absurd (refused-word (slice_get (words_of form) place) NotFound old new p)
 given-wish form blocks is_told all done (wish.Block block) old new p = absurd (no-answer (named_lines (codes "--at " ++ decimal block) (fault_line (File NotFound))) old new p)
@@ -252,8 +259,8 @@ given-asked form blocks old it new (inr f) = wished f.after
             let there : w.given ≡ true = sound w.given it w.after.0 in
             let g = given-each form blocks p.is_told (length f.given.items) 0 true wishes p.begun p.done
             (subst (λ (b : Bool). GivesEach form blocks p.is_told (length f.given.items) 0 true wishes p.begun (Ok b) p.done) there p.works) in
-            let begins : ChangesNothing old p.begun = λ path. begins-never p.is_told m.between p.begun p.begins path ∙ ap (λ (events : List Event). about path events) (m.done ∙ ap (λ (events : List Event). folder_call form.folder.bytes.items ∷ events) same) in
-            let ended : ChangesNothing p.done new = λ path. still w.between new w.after.1 path ∙ ends-never p.is_told p.done w.between p.ends path in
+            let begins : SameFiles old p.begun = λ path. of-file path (begins-never p.is_told m.between p.begun p.begins path) ∙ ap (λ (events : List Event). about path events) (m.done ∙ ap (λ (events : List Event). folder_call form.folder.bytes.items ∷ events) same) in
+            let ended : SameFiles p.done new = λ path. still w.between new w.after.1 path ∙ of-file path (ends-never p.is_told p.done w.between p.ends path) in
             record {
               begun = m.between;
               folder = m.done ∙ ap (λ (events : List Event). folder_call form.folder.bytes.items ∷ events) same;
@@ -287,7 +294,7 @@ gotten form old it new (inr t) = seen t.after
           folder = a.folder;
           hosts = a.given.hosts;
           are = a.given.are;
-          written = written-after a.given.hosts old read new (λ path. looks-at-keeps form.image old (Ok image) read looked path) a.given.written;
+          written = written-after a.given.hosts old read new (λ path. of-file path (looks-at-keeps form.image old (Ok image) read looked path)) a.given.written;
         }
 
     seen : Then (LooksAt form.image) (λ image. Then (Answers (OpensVolume image.items) (length image.items)) (GivesAsked form)) t.between (Ok it) new → HasGotten form old new
@@ -356,7 +363,7 @@ written-out folder form old it new (inr l) = scanned l.after
           made = made;
           hosts = p.hosts;
           are = p.are;
-          written = written-after p.hosts old m.between new (λ path. ap (λ (events : List Event). about path events) made ∙ looks-at-keeps form old (Ok l.given) l.between l.done path) p.written;
+          written = written-after p.hosts old m.between new (λ path. ap (λ (events : List Event). about path events) made ∙ of-file path (looks-at-keeps form old (Ok l.given) l.between l.done path)) p.written;
         }
 
     scanned : Then (Answers (Scans l.given.items) (length l.given.items)) (λ scan. WritesAll folder l.given.items scan) l.between (Ok it) new → HasWrittenOut folder form old new

@@ -5,7 +5,7 @@ use Rattle.hosts.specs.Event.{Event, print_call}
 use Rattle.hosts.specs.Faults.{class_of}
 use Rattle.hosts.specs.Place.{Place, Step, Just, Leaves, may_leave, about, replay, ever}
 use Rattle.hosts.specs.Saving.{AnyMomentOf, IsAsItWas, IsUnmade, Makes, replacements}
-use Rattle.hosts.specs.Streams.{asked_name, errors, has_links, output, path_of_name}
+use Rattle.hosts.specs.Streams.{asked_name, errors, has_links, output, path_of_name, changes_at}
 use Rattle.hosts.specs.declared.faults.Durability.{Durability}
 use Rattle.hosts.specs.declared.faults.Durability.TheVariants.{Certain, Unknown}
 use Rattle.hosts.specs.declared.faults.FaultClass.{FaultClass}
@@ -29,6 +29,7 @@ use Rattle.image_files.specs.Reasons.{TellsUnless, is_untold, is_want_of_memory,
 use Rattle.image_files.specs.Saving.{HasSaved, IsSyncTold, Reports, Writes}
 use Rattle.image_files.specs.Work.{Then}
 use Rattle.image_files.proofs.ReasonLemmas.{reason-keeps, unless-keeps, unless-output}
+use Rattle.image_files.proofs.KeepLemmas.{of-file}
 use Rattle.change_commands.specs.Creating.{CreatesFile, IsBlankDisk, IsBlankImage, IsBlankTapeFile, MakesIf, MakesVolume}
 use Rattle.change_commands.specs.declared.creating.TheConstants.{TAPE_BLOCKS, DISK_BLOCKS}
 use Rattle.keeper_laws.specs.Changed.{ChangesNoOther, is_warning, warnings}
@@ -98,8 +99,8 @@ first-after name file calls old mid new quiet f = record {
   asked = f.asked;
   now = f.now;
   after = λ few. f.after (few-before calls old mid new quiet few);
-  moments = λ has start found leaves. subst (λ (s : List Step). (found ≡ Some file) ⊎ Leaves (ever start s) found) (quiet.files f.path) (f.moments has start found leaves);
-  first = f.first ∙ ap (λ (s : List Step). replacements s) (quiet.files f.path);
+  moments = λ has start found leaves. subst (λ (s : List Step). (found ≡ Some file) ⊎ Leaves (ever start s) found) (of-file f.path (quiet.files f.path)) (f.moments has start found leaves);
+  first = f.first ∙ ap (λ (s : List Step). replacements s) (of-file f.path (quiet.files f.path));
   alone = alone-after f.path old mid new quiet.files f.alone;
 }
 
@@ -126,7 +127,7 @@ gets-file false name file calls old mid new quiet (inr (path, b)) = inr (path, �
 none-made : (name file : List ℕ) (fault : HostFault) (is : Bool) (why : Reason) (old between new : List Event) → HasNotMade name file fault old between → TellsUnless is why name between new → MakesNone old new
 none-made name file fault is why old between new unmade told = record {
   path = path_of_name between;
-  there = λ start. subst (λ (s : List Step). IsUnmade s (replay start (about (path_of_name between) old)) (replay start s)) (sym (unless-keeps is why name between new told (path_of_name between))) (unmade.unmade start);
+  there = λ start. subst (λ (s : List Step). IsUnmade s (replay start (about (path_of_name between) old)) (replay start s)) (sym (of-file (path_of_name between) (unless-keeps is why name between new told (path_of_name between)))) (unmade.unmade start);
   alone = alone-before (path_of_name between) old between new (unless-keeps is why name between new told) (alone-only (path_of_name between) old between unmade.only);
   prints = unless-output is why name between new told ∙ unmade.only.prints;
 }
@@ -134,7 +135,7 @@ none-made name file fault is why old between new unmade told = record {
 pub none-after : (old mid new : List Event) → DoesNothing old mid → MakesNone mid new → MakesNone old new
 none-after old mid new none m = record {
   path = m.path;
-  there = λ start. subst (λ (s : List Step). IsUnmade (about m.path new) (replay start s) (replay start (about m.path new))) (none.0 m.path) (m.there start);
+  there = λ start. subst (λ (s : List Step). IsUnmade (about m.path new) (replay start s) (replay start (about m.path new))) (of-file m.path (none.0 m.path)) (m.there start);
   alone = alone-after m.path old mid new none.0 m.alone;
   prints = m.prints ∙ none.1;
 }
@@ -142,7 +143,7 @@ none-after old mid new none m = record {
 pub nothing-made : (old new : List Event) → DoesNothing old new → MakesNone old new
 nothing-made old new none = record {
   path = [];
-  there = λ start. subst (λ (s : List Step). IsUnmade s (replay start (about [] old)) (replay start s)) (sym (none.0 [])) (inl (record { seen = refl; on_disk = refl; earlier = refl }));
+  there = λ start. subst (λ (s : List Step). IsUnmade s (replay start (about [] old)) (replay start s)) (sym (of-file [] (none.0 []))) (inl (record { seen = refl; on_disk = refl; earlier = refl }));
   alone = alone-none [] old new none.0;
   prints = none.1;
 }
@@ -201,9 +202,9 @@ over-saved : (path file : List ℕ) (old mid new : List Event) → IsQuiet [] ol
 over-saved path file old mid new quiet saved ok number lines last is was =
     let b = becomes-saved path was file mid new saved in
     subst (λ (n : List Event). BecomesIf path was file old n) (sym is) (record {
-      now = λ start had. b.now start (subst (λ (s : List Step). (replay start s).seen ≡ Just (Some was)) (sym (quiet.files path)) had);
+      now = λ start had. b.now start (subst (λ (s : List Step). (replay start s).seen ≡ Just (Some was)) (sym (of-file path (quiet.files path))) had);
       after = λ few. b.after (few-before [] old mid new quiet few);
-      moments = λ few start found leaves. subst (λ (s : List Step). (found ≡ Some file) ⊎ Leaves (ever start s) found) (quiet.files path) (b.moments (few-before [] old mid new quiet few) start found leaves);
+      moments = λ few start found leaves. subst (λ (s : List Step). (found ≡ Some file) ⊎ Leaves (ever start s) found) (of-file path (quiet.files path)) (b.moments (few-before [] old mid new quiet few) start found leaves);
       alone = alone-after path old mid (print_call ok number lines ∷ new) quiet.files (alone-before path mid new (print_call ok number lines ∷ new) (λ p. refl) b.alone);
     })
 
@@ -211,8 +212,8 @@ over-ends : (path name file : List ℕ) (old mid : List Event) (result : Result 
 over-ends path name file old mid (Ok it) new quiet p = (λ ok number lines last is. inr (path, over-saved path file old mid new quiet p ok number lines last is), p.only.prints ∙ quiet.prints)
 over-ends path name file old mid (Err (NotWritten it AsItWas)) new quiet (is, fault, between, u, told) = record {
   path = path;
-  there = λ start. subst (λ (s : List Step). IsUnmade s (replay start (about path old)) (replay start s)) (sym (reason-keeps (reason.Fault fault) name between new told path))
-      (inl (subst (λ (s : List Step). IsAsItWas (replay start s) (replay start (about path between))) (quiet.files path) (u.same start)));
+  there = λ start. subst (λ (s : List Step). IsUnmade s (replay start (about path old)) (replay start s)) (sym (of-file path (reason-keeps (reason.Fault fault) name between new told path)))
+      (inl (subst (λ (s : List Step). IsAsItWas (replay start s) (replay start (about path between))) (of-file path (quiet.files path)) (u.same start)));
   alone = alone-after path old mid new quiet.files (alone-before path mid between new (reason-keeps (reason.Fault fault) name between new told) (alone-only path mid between u.only));
   prints = unless-output false (reason.Fault fault) name between new told ∙ u.only.prints ∙ quiet.prints;
 }
@@ -325,7 +326,7 @@ module _ (gives : Result (Vec ℕ) Ending → Type 0) (gives_line : (ending : En
 
     lines-made : (file : Vec ℕ) → gives (Ok file) → (old : List Event) (result : Result (Unit {0}) Ending) (new : List Event) → MakesVolume form file.items blocks old result new → EndsMade Done result old new
     lines-made file gave old (Ok it) new (inl ends) = absurd ends
-    lines-made file gave old (Err ending) new (inl ends) = by-line Done ending old new (ap is_line ends.0) (nothing-made old new (λ path. ap (λ (n : List Event). about path n) ends.1, ap output ends.1))
+    lines-made file gave old (Err ending) new (inl ends) = by-line Done ending old new (ap is_line ends.0) (nothing-made old new (λ path. ap (λ (n : List Event). changes_at path n) ends.1, ap output ends.1))
     lines-made file gave old result new (inr it) = file-made file gave old result new
         (subst (λ (n : List Event). Then (MakesIf form.is_new form.file.bytes.items file.items) (λ it. Reports (program_line (line.Created blocks))) n result new) it.done.1
         (subst (λ (l : List ℕ). Then (MakesIf form.is_new form.file.bytes.items file.items) (λ it. Reports l) it.between result new) it.done.0 it.after))
@@ -333,7 +334,7 @@ module _ (gives : Result (Vec ℕ) Ending → Type 0) (gives_line : (ending : En
     -- what each ending of the making of a volume means
     pub create-ends : (old : List Event) (result : Result (Unit {0}) Ending) (new : List Event) → CreatesFile gives form blocks old result new → EndsMade Done result old new
     create-ends old (Ok it) new (inl ends) = absurd ends
-    create-ends old (Err ending) new (inl ends) = by-line Done ending old new (gives_line ending ends.0) (nothing-made old new (λ path. ap (λ (n : List Event). about path n) ends.1, ap output ends.1))
+    create-ends old (Err ending) new (inl ends) = by-line Done ending old new (gives_line ending ends.0) (nothing-made old new (λ path. ap (λ (n : List Event). changes_at path n) ends.1, ap output ends.1))
     create-ends old result new (inr it) = lines-made it.given it.done.0 old result new (subst (λ (n : List Event). MakesVolume form it.given.items blocks n result new) it.done.1 it.after)
 
 -- ## The three forms

@@ -2,8 +2,7 @@
 use Rattle.std.proofs.Common.{◌≡◌, ◌∙◌, ◌⊎◌, ℕ, Bool, true, false, Result, Ok, Err, List, [], ◌∷◌, ◌++◌, ap, refl, subst, inl, inr}
 use Rattle.std.specs.Global.{Vec}
 use Rattle.hosts.specs.Event.{Event, look_call, print_call}
-use Rattle.hosts.specs.Place.{about}
-use Rattle.hosts.specs.Streams.{output, read}
+use Rattle.hosts.specs.Streams.{output, read, changes_at}
 use Rattle.block_words.specs.Patching.{Patches}
 use Rattle.refusals.specs.declared.faults.SessionFault.TheVariants.{Memory}
 use Rattle.outcome.specs.declared.endings.Ending.{Ending}
@@ -86,7 +85,7 @@ module _ (saves : FindsSaved) (stays : FindsUnsaved) (word : WordPatch) (form : 
     -- its refusal is printed
     says-no : (image : Image) (mid : List Event) → HasOpened form old image mid → (line : List ℕ) (ok : Bool) (number : ℕ) (new : List Event) → new ≡ print_call ok number line ∷ mid → SaysNo old new
     says-no image mid o line ok number new p = record {
-      files = λ path. ap (λ (n : List Event). about path n) p ∙ o.quiet.files path;
+      files = λ path. ap (λ (n : List Event). changes_at path n) p ∙ o.quiet.files path;
       ok = ok;
       line = line;
       prints = ap output p ∙ ap (λ (l : List (Bool × List ℕ)). (ok, line) ∷ l) o.quiet.prints;
@@ -105,7 +104,7 @@ module _ (saves : FindsSaved) (stays : FindsUnsaved) (word : WordPatch) (form : 
     aloud image mid o line Misuse new p = absurd p
 
     want : (image : Image) (mid : List Event) → HasOpened form old image mid → (ending : Ending) (new : List Event) → ending ≡ Fault Memory → new ≡ mid → Ended (Err ending) new
-    want image mid o ending new is p = inl (rejected-ends form (HasPatched word form) old ending new (ends-so ending _ is refl, (λ path. ap (λ (n : List Event). about path n) p ∙ o.quiet.files path, ap output p ∙ o.quiet.prints)))
+    want image mid o ending new is p = inl (rejected-ends form (HasPatched word form) old ending new (ends-so ending _ is refl, (λ path. ap (λ (n : List Event). changes_at path n) p ∙ o.quiet.files path, ap output p ∙ o.quiet.prints)))
 
     given : (image : Image) (mid : List Event) → HasOpened form old image mid → (result : Result (Unit {0}) Ending) (new : List Event)
         → Then (GivesPatched word image.bytes.items) (λ bytes. Then (Purely (AreLines (patched_text word))) (λ line. Stores image bytes.items line.items)) mid result new → Ended result new

@@ -3,8 +3,7 @@ use Rattle.std.proofs.Common.{◌≡◌, ◌∙◌, ℕ, Bool, true, false, Opti
 use Rattle.std.specs.Global.{Vec}
 use Rattle.hosts.specs.Event.{Event, Look, failed_call, look_call, print_call}
 use Rattle.hosts.specs.Faults.{class_of}
-use Rattle.hosts.specs.Place.{about}
-use Rattle.hosts.specs.Streams.{errors, output, read}
+use Rattle.hosts.specs.Streams.{errors, output, read, changes_at}
 use Rattle.hosts.specs.declared.faults.FaultClass.{FaultClass}
 use Rattle.hosts.specs.declared.faults.FaultClass.TheVariants as class
 use Rattle.hosts.specs.declared.faults.Unwritten.TheVariants.{AsItWas, InPart}
@@ -60,8 +59,8 @@ looks-so name old ending new (inl (fault, is, p)) = (
   line-so ending (ending_of_image fault) is (looked-line (class_of fault)),
   (λ path. unless-keeps (is_want_of_memory fault) (reason.Fault fault) name (failed_call Look name fault ∷ old) new p path, unless-output (is_want_of_memory fault) (reason.Fault fault) name (failed_call Look name fault ∷ old) new p),
 )
-looks-so name old ending new (inr (bytes, many, inl (is, ok, p))) = (line-so ending _ is refl, (λ path. ap (λ (n : List Event). about path n) p, ap output p))
-looks-so name old ending new (inr (bytes, many, inr (is, p))) = (line-so ending _ is refl, (λ path. ap (λ (n : List Event). about path n) p, ap output p))
+looks-so name old ending new (inr (bytes, many, inl (is, ok, p))) = (line-so ending _ is refl, (λ path. ap (λ (n : List Event). changes_at path n) p, ap output p))
+looks-so name old ending new (inr (bytes, many, inr (is, p))) = (line-so ending _ is refl, (λ path. ap (λ (n : List Event). changes_at path n) p, ap output p))
 
 judges-so : (name : List ℕ) (two : Option (ImageKind × ImageKind)) → RefusesSo (JudgesBy name two)
 judges-so name None old ending new p = absurd p

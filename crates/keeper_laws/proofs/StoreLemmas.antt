@@ -5,7 +5,7 @@ use Rattle.std.specs.Str.{bytes_eq}
 use Rattle.hosts.specs.Event.{Event, look_call, print_call}
 use Rattle.hosts.specs.Place.{Place, Step, Just, Leaves, may_leave, about, replay, ever}
 use Rattle.hosts.specs.Saving.{AnyMomentOf, IsAsItWas, IsKept, IsOldOrNew, KeepsFile, StaysAsItWas}
-use Rattle.hosts.specs.Streams.{errors, output, read, may_replace}
+use Rattle.hosts.specs.Streams.{errors, output, read, may_replace, changes_at}
 use Rattle.hosts.specs.declared.faults.Durability.{Durability}
 use Rattle.hosts.specs.declared.faults.Durability.TheVariants.{Certain, Unknown}
 use Rattle.hosts.specs.declared.faults.Unwritten.TheVariants.{AsItWas, InPart}
@@ -24,6 +24,7 @@ use Rattle.image_files.specs.Saving.{HasSaved, IsFileWith, IsPlaceTold, IsSyncTo
 use Rattle.image_files.specs.declared.images.Image.{Image}
 use Rattle.image_files.specs.declared.reading.ImagePlace.{ImagePlace}
 use Rattle.image_files.proofs.ReasonLemmas.{reason-keeps, unless-output}
+use Rattle.image_files.proofs.KeepLemmas.{of-file}
 use Rattle.keeper_laws.specs.Changed.{Becomes, GetsVolume, ChangesNoOther, warnings}
 use Rattle.keeper_laws.specs.Ended.{AllStay, DoesNothing, EndsAs, MayHoldAPart, TouchesItAlone}
 use Rattle.keeper_laws.proofs.AloneLemmas.{alone-after, alone-at, alone-before, alone-only}
@@ -126,7 +127,7 @@ written false image was bytes file old it new kind is_held with p = absurd p
 
 saved-so : (is : Bool) (image : Image) (was bytes : List ℕ) (old : List Event) (it : Unit {0}) (new : List Event) → bytes_eq image.bytes.items bytes ≡ is → SavesIf is image bytes old (Ok it) new → IsSavedSo image was bytes old new
 saved-so true image was bytes old it new same (done, stays) = record {
-  has = inr (sym ((bytes_eq-Decides image.bytes.items bytes).0 same), λ path. ap (λ (n : List Event). about path n) stays);
+  has = inr (sym ((bytes_eq-Decides image.bytes.items bytes).0 same), λ path. ap (λ (n : List Event). changes_at path n) stays);
   prints = ap output stays;
   reads = ap read stays;
 }
@@ -196,7 +197,7 @@ unchanged old new is start = subst (λ (n : List Step). IsAsItWas (replay start 
 -- a note after it leaves each file
 told-stay : (image : Image) (why : Reason) (name : List ℕ) (old mid new : List Event) → TellsReason why name mid new → StaysAll image old mid → StaysAll image old new
 told-stay image why name old mid new told stay = record {
-  files = λ path. subst (λ (s : List Step). StaysAsItWas (about path old) s) (sym (reason-keeps why name mid new told path)) (stay.files path);
+  files = λ path. subst (λ (s : List Step). StaysAsItWas (about path old) s) (sym (of-file path (reason-keeps why name mid new told path))) (stay.files path);
   touches = go stay.touches;
   prints = unless-output false why name mid new told ∙ stay.prints;
 } where
@@ -255,7 +256,7 @@ kept-ends : (keeps : Bool) (image : Image) (was bytes line file : List ℕ) (old
     → WritesIf keeps image.judgment image.place.path.bytes.items image.place.name.bytes.items file old (Err ending) new → EndsStore image was bytes line (Err ending) old new
 kept-ends true image was bytes line file old ending new is_held p = writes-ends image was bytes line file old ending new is_held p
 kept-ends false image was bytes line file old ending new is_held (is, ok, p) =
-    subst (λ (e : Ending). EndsStore image was bytes line (Err e) old new) (sym is) (λ path. ap (λ (n : List Event). about path n) p, ap output p)
+    subst (λ (e : Ending). EndsStore image was bytes line (Err e) old new) (sym is) (λ path. ap (λ (n : List Event). changes_at path n) p, ap output p)
 
 -- an image that can't be saved
 cannot-stay : (image : Image) (bytes : List ℕ) (old new : List Event) → TellsCannot image bytes old new → StaysAll image old new
@@ -299,9 +300,9 @@ pub record IsReady (form : ImageForm) (calls : List Event) (image : Image) (byte
 
 pub becomes : (path other was file : List ℕ) (calls old mid new : List Event) → IsQuiet calls old mid → path ≡ other → BecomesIf other was file mid new → Becomes path was file old new
 becomes path other was file calls old mid new quiet is b = subst (λ (p : List ℕ). Becomes p was file old new) (sym is) (record {
-  now = λ start had. b.now start (subst (λ (s : List Step). (replay start s).seen ≡ Just (Some was)) (sym (quiet.files other)) had);
+  now = λ start had. b.now start (subst (λ (s : List Step). (replay start s).seen ≡ Just (Some was)) (sym (of-file other (quiet.files other))) had);
   after = λ silent start found leaves. b.after (few silent) start found leaves;
-  moments = λ silent start found leaves. subst (λ (s : List Step). (found ≡ Some file) ⊎ Leaves (ever start s) found) (quiet.files other) (b.moments (few silent) start found leaves);
+  moments = λ silent start found leaves. subst (λ (s : List Step). (found ≡ Some file) ⊎ Leaves (ever start s) found) (of-file other (quiet.files other)) (b.moments (few silent) start found leaves);
   alone = alone-after other old mid new quiet.files b.alone;
 }) where
   few : warnings (errors new) ≡ warnings (errors old) → warnings (errors new) ≤ warnings (errors mid)
@@ -342,7 +343,7 @@ part-ends form image calls old opened_at mid new o quiet reads part =
 
 stays-after : (form : ImageForm) (image : Image) (calls old opened_at mid new : List Event) (o : HasOpened form old image opened_at) → IsQuiet calls old mid → StaysAll image mid new → AllStay form old new
 stays-after form image calls old opened_at mid new o quiet stay = record {
-  files = λ path. subst (λ (s : List Step). StaysAsItWas s (about path new)) (quiet.files path) (stay.files path);
+  files = λ path. subst (λ (s : List Step). StaysAsItWas s (about path new)) (of-file path (quiet.files path)) (stay.files path);
   touches = go stay.touches;
   prints = stay.prints ∙ quiet.prints;
 } where

@@ -24,6 +24,7 @@ use Rattle.image_files.specs.Laws.{ChangesNothing}
 use Rattle.image_files.specs.Saving.{IsFileWith, Prints}
 use Rattle.image_files.specs.Work.{Then}
 use Rattle.image_files.specs.declared.images.Image.{Image}
+use Rattle.image_files.proofs.KeepLemmas.{of-file}
 use Rattle.keeper_laws.specs.Changed.{Becomes, GetsVolume}
 use Rattle.keeper_laws.specs.GettingBack.{LooksAndShows, PrintsOrLacks, ShowsIn}
 use Rattle.keeper_laws.specs.Seen.{GivesWhatIsSeen, IsSeen, LooksAndPrints}
@@ -103,7 +104,7 @@ seen-after start form image path was bytes old mid between has seen stays = eith
 
   either : ((image.place.is_held ≡ true) × IsFileWith image bytes has.file × Becomes path was has.file old mid) ⊎ ((bytes ≡ image.bytes.items) × (has.file ≡ was) × ChangesNothing old mid) → IsSeen start path between has.file
   either (inl (held, is, becomes)) = here (becomes.now start seen)
-  either (inr (same, is, stayed)) = here (subst (λ (steps : List Step). (replay start steps).seen ≡ Just (Some has.file)) (sym (stayed path)) (seen ∙ ap (λ (file : List ℕ). Just (Some file)) (sym is)))
+  either (inr (same, is, stayed)) = here (subst (λ (steps : List Step). (replay start steps).seen ≡ Just (Some has.file)) (sym (of-file path (stayed path))) (seen ∙ ap (λ (file : List ℕ). Just (Some file)) (sym is)))
 
 same-file : (one other : List ℕ) → Just (Some one) ≡ Just (Some other) → one ≡ other
 same-file one other is = cc

@@ -4,7 +4,7 @@ use Rattle.std.specs.Str.{bytes_eq}
 use Rattle.hosts.specs.Event.{Event}
 use Rattle.hosts.specs.Place.{Place, Just, Leaves, may_leave, about, replay, ever}
 use Rattle.hosts.specs.Saving.{ClearsBeside}
-use Rattle.hosts.specs.Streams.{errors}
+use Rattle.hosts.specs.Streams.{errors, folders}
 use Rattle.image_kind.specs.Margins.{body_by, margins_in}
 use Rattle.image_kind.specs.Volumes.{volumes_in}
 use Rattle.image_kind.specs.declared.margins.Margins.{Margins}
@@ -64,10 +64,11 @@ IsUnwarned old new = warnings (errors new) ≡ warnings (errors old)
 -- ## The file after
 
 -- The file at one path, and the one beside it, may be made, changed or removed, and no other. None is left beside it, unless that could not be
--- taken away.
+-- taken away. No folder is made.
 pub record ChangesNoOther (path : List ℕ) (old new : List Event) : Type 0 where
   pub others : (other : List ℕ) → bytes_eq path other ≡ false → about other new ≡ about other old
   pub beside : ClearsBeside (about path old) (about path new)
+  pub keeps_folders : folders new ≡ folders old
 
 -- The file of a path, which had these bytes, has others now. Unless a note warns of it, a crash now leaves these. One at any moment before left
 -- these, whole, or what it might have left before the command. No other file is changed.

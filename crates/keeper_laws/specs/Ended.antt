@@ -14,7 +14,7 @@ use Rattle.image_files.specs.declared.images.Image.{Image}
 use Rattle.image_files.specs.declared.reading.ImagePlace.{ImagePlace}
 use Rattle.keeper_laws.specs.Changed.{IsHeldAt, ChangesNoOther}
 
--- no file is changed, and no line of a change is printed
+-- no file is changed, no folder is made, and no line of a change is printed
 abbrev pub DoesNothing : List Event → List Event → Type 0
 DoesNothing old new = ChangesNothing old new × (output new ≡ output old)
 

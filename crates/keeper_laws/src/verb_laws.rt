@@ -66,7 +66,7 @@ pub fn file_comes_back()
     kept_kind();
 }
 
-/// A list of some files, or the texts of some, change no file of the host, in whichever way they end.
+/// A list of some files, or the texts of some, change no file of the host and make no folder, in whichever way they end.
 pub fn unchanged_files()
     ensures lists { (form : Listed) → KeepsFiles (ListsSome form) }
     ensures texts { (image : Seen) (is_all : Bool) (words : List (List ℕ)) (places : List ℕ) → KeepsFiles (ShowsTexts image is_all words places) }

@@ -3,7 +3,7 @@ use Rattle.std.proofs.Common.{◌≡◌, ◌≢◌, ◌∙◌, ◌&&◌, ◌-◌
 use Rattle.std.proofs.lemmas.Bool.{and_parts, leb-true, ltb-true, not-true}
 use Rattle.std.specs.Global.{Global}
 use Rattle.hosts.specs.Event.{Event}
-use Rattle.hosts.specs.Place.{about}
+use Rattle.hosts.specs.Streams.{changes_at}
 use Rattle.outcome.specs.declared.endings.Ending.{Ending}
 use Rattle.program_tasks.specs.declared.boots.ConsoleForm.{ConsoleForm}
 use Rattle.image_files.specs.Laws.{ChangesNothing}
@@ -32,8 +32,8 @@ saved-then form steps s kept after old result new (inl p) is = absurd (true≢fa
 saved-then form steps s kept after old result new (inr (saved, between, saves, next)) is = (saved, between, saves.saves)
 
 asks-keep : (name : Option (String Global)) (old : List Event) (result : Result Bool Ending) (new : List Event) → AsksThen name old result new → ChangesNothing old new
-asks-keep None old (Ok is) new p path = ap (λ (n : List Event). about path n) p.1
-asks-keep (Some name) old (Ok is) new p path = ap (λ (n : List Event). about path n) p
+asks-keep None old (Ok is) new p path = ap (λ (n : List Event). changes_at path n) p.1
+asks-keep (Some name) old (Ok is) new p path = ap (λ (n : List Event). changes_at path n) p
 asks-keep name old (Err ending) new p path = absurd p
 
 pub idle-then : (form : ConsoleForm) (steps : ℕ) (s : Console) (kept after : SavedPlaces) (old : List Event) (result : Result Bool Ending) (new : List Event) → DoesBetween form steps s kept after old result new

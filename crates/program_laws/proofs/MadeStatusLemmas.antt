@@ -2,8 +2,7 @@
 use Rattle.std.proofs.Common.{◌≡◌, ◌∙◌, ◌⊎◌, ℕ, suc, Bool, true, false, Option, Result, Ok, Err, List, [], ◌∷◌, refl, sym, ap, subst, inl, inr}
 use Rattle.byte_reader.specs.Readings.{Reading}
 use Rattle.hosts.specs.Event.{Event, pause_call}
-use Rattle.hosts.specs.Place.{about}
-use Rattle.hosts.specs.Streams.{output}
+use Rattle.hosts.specs.Streams.{output, changes_at}
 use Rattle.hosts.specs.declared.faults.Unwritten.TheVariants as unwritten
 use Rattle.outcome.specs.declared.contents.Content.TheVariants.{Image as Held}
 use Rattle.outcome.specs.declared.endings.Ending.{Ending}
@@ -94,11 +93,11 @@ made-ill done reports Misuse old new s = absurd s
 
 -- a try that made no file, and the time after it
 after-pause : (old after : List Event) → MakesNone old after → MakesNone old (pause_call ∷ after)
-after-pause old after m = record { path = m.path; there = m.there; alone = record { others = m.alone.others; beside = m.alone.beside }; prints = m.prints }
+after-pause old after m = record { path = m.path; there = m.there; alone = record { others = m.alone.others; beside = m.alone.beside; keeps_folders = m.alone.keeps_folders }; prints = m.prints }
 
 vain-after : (command : List Event → Result (Unit {0}) Ending → List Event → Type 0) → ((old new : List Event) → command old (Err (Busy Held)) new → MakesNone old new)
     → (begun : List (List Event)) (old mid new : List Event) → DoesNothing old mid → AreBusy command begun mid new → AreVain begun old new
-vain-after command gives [] old mid new nothing is = (λ path. ap (λ (n : List Event). about path n) is ∙ nothing.0 path, ap output is ∙ nothing.1)
+vain-after command gives [] old mid new nothing is = (λ path. ap (λ (n : List Event). changes_at path n) is ∙ nothing.0 path, ap output is ∙ nothing.1)
 vain-after command gives (before ∷ earlier) old mid new nothing (busy, after, last, is) =
     (vain-after command gives earlier old mid before nothing busy, subst (λ (n : List Event). MakesNone before n) (sym is) (after-pause before after (gives before after last)))
 

@@ -6,7 +6,7 @@ use Rattle.byte_reader.specs.Readings.{Reading}
 use Rattle.hosts.specs.Event.{Event}
 use Rattle.hosts.specs.Place.{Place, Just, Step as HostStep, about, replay}
 use Rattle.hosts.specs.Saving.{Makes as MakesAt, replacements}
-use Rattle.hosts.specs.Streams.{may_replace, output, path_of_name}
+use Rattle.hosts.specs.Streams.{may_replace, output, path_of_name, changes_at}
 use Rattle.hosts.specs.declared.faults.Durability.{Durability}
 use Rattle.hosts.specs.declared.faults.Durability.TheVariants.{Certain, Unknown}
 use Rattle.hosts.specs.declared.faults.HostFault.{HostFault}
@@ -26,6 +26,7 @@ use Rattle.image_files.specs.Reading.{IsIdle, hold_calls, with_lock_note}
 use Rattle.image_files.specs.Saving.{HasSaved, IsDone}
 use Rattle.image_files.specs.Waiting.{TellsBusy, Within}
 use Rattle.image_files.specs.Work.{Then, Purely}
+use Rattle.image_files.proofs.KeepLemmas.{of-file}
 use Rattle.assemble_commands.specs.Assembling.{Assembles, AssemblesAll, AssemblesFrom, AssemblesTo, IsListing, IsMade, IsPal8Listing, IsTapeOf, ListsTape, Makes, MakesIf, NotesIf, options_of}
 use Rattle.assemble_commands.specs.Clashes.{tape_place}
 use Rattle.assemble_commands.specs.Outputs.{WritesIf, WritesListing, WritesTape}
@@ -75,7 +76,7 @@ is-new : (content : Content) (name bytes : List ℕ) (old begun new : List Event
 is-new content name bytes old begun new idle m = record {
   asked = m.asked;
   now = made-now m.durability bytes (about (path_of_name new) begun) (about (path_of_name new) new) m.made;
-  first = m.first ∙ ap (λ (s : List HostStep). replacements s) (idle.files (path_of_name new));
+  first = m.first ∙ ap (λ (s : List HostStep). replacements s) (of-file (path_of_name new) (idle.files (path_of_name new)));
   alone = alone-after (path_of_name new) old begun new idle.files (alone-only (path_of_name new) begun new m.only);
 }
 
@@ -91,11 +92,11 @@ has-file content name bytes old it new (inr (inr (fault, between, unheld, idle, 
 -- ## Where the outputs go
 
 went-if : (is : Bool) (content : Content) (name bytes : List ℕ) (old : List Event) (it : Unit {0}) (new : List Event) → WritesIf is content name bytes old (Ok it) new → WentIf is content name bytes old new
-went-if true content name bytes old it new p = (λ path. ap (λ (n : List Event). about path n) p, ap output p)
+went-if true content name bytes old it new p = (λ path. ap (λ (n : List Event). changes_at path n) p, ap output p)
 went-if false content name bytes old it new p = has-file content name bytes old it new p
 
 tape-went : (given : Option (String Global)) (tape : List ℕ) (old : List Event) (it : Unit {0}) (new : List Event) → WritesTape given tape old (Ok it) new → WentTo Tape (tape_place given) tape old new
-tape-went None tape old it new p = (λ path. ap (λ (n : List Event). about path n) p, ap output p)
+tape-went None tape old it new p = (λ path. ap (λ (n : List Event). changes_at path n) p, ap output p)
 tape-went (Some name) tape old it new p = went-if (is_standard name.bytes.items) Tape name.bytes.items tape old it new p
 
 -- the listing that was made, if one is asked for
@@ -105,7 +106,7 @@ ListedAs false is form sources listing = IsListing is form.is_cross sources list
 
 listing-went : (is_pal8 : Bool) (form : AssembleForm) (sources : List (Bor (List ℕ))) (list : Option (String Global)) (listing : Option (Vec ℕ)) (old : List Event) (it : Unit {0}) (new : List Event)
     → ListedAs is_pal8 (is_some list) form sources listing → WritesListing list listing old (Ok it) new → ListsTo is_pal8 form sources list old new
-listing-went is_pal8 form sources None listing old it new has p = (λ path. ap (λ (n : List Event). about path n) p.1, ap output p.1)
+listing-went is_pal8 form sources None listing old it new has p = (λ path. ap (λ (n : List Event). changes_at path n) p.1, ap output p.1)
 listing-went true form sources (Some name) None old it new has p = absurd has
 listing-went false form sources (Some name) None old it new has p = absurd has
 listing-went true form sources (Some name) (Some listing) old it new has p = (listing, has, went-if (is_standard name.bytes.items) Listing name.bytes.items listing.items old it new p)
@@ -145,7 +146,7 @@ made-of form texts old made new (inr it) = named it.after
           lent = it.done.0;
           assembled = h.tape;
           listed = listed-as form.is_pal8 form it.given.items two.given.items two.between made new two.after;
-          quiet = (λ path. h.quiet.files path ∙ ap (λ (n : List Event). about path n) stays, h.quiet.prints ∙ ap output stays);
+          quiet = (λ path. h.quiet.files path ∙ ap (λ (n : List Event). changes_at path n) stays, h.quiet.prints ∙ ap output stays);
         }
 
 -- ## The command
@@ -237,7 +238,7 @@ module _ (form : AssembleForm) (is_typed : Bool) (input : Reading) (from : form.
   tried-once it old between new w same = (
     w.after,
     outputs-end form old it w.after onto (once (file_for form.from) (Assembles form) old (Ok it) between w),
-    λ path. same path ∙ ap (λ (n : List Event). about path n) (told-none (file_for form.from) it w.after between w.told),
+    λ path. same path ∙ ap (λ (n : List Event). changes_at path n) (told-none (file_for form.from) it w.after between w.told),
   )
 
   of-work : (work : Result (Unit {0}) Ending) (old between new : List Event) → Within (seconds_for form.from) (file_for form.from) (Assembles form) old work between → IsDone work → ChangesNothing between new

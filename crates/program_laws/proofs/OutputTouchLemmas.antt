@@ -3,8 +3,7 @@ use Rattle.std.proofs.Common.{◌≡◌, ◌∙◌, ℕ, Bool, true, false, Opti
 use Rattle.std.specs.Global.{Vec, Global}
 use Rattle.std.specs.Str.{bytes_eq}
 use Rattle.hosts.specs.Event.{Event}
-use Rattle.hosts.specs.Place.{about}
-use Rattle.hosts.specs.Streams.{path_of_name}
+use Rattle.hosts.specs.Streams.{path_of_name, changes_at}
 use Rattle.hosts.specs.declared.faults.Unwritten.TheVariants.{AsItWas, InPart}
 use Rattle.archive_files.specs.declared.forms.PutForm.TheVariants.{Frames}
 use Rattle.archive_files.specs.Putting.{PutsFile}
@@ -139,8 +138,8 @@ writes-if true content name bytes old result new p = prints-keeps bytes old resu
 writes-if false content name bytes old result new p = file-one content name bytes old result new p
 
 listing-touches : (list : Option (String Global)) (listing : Option (Vec ℕ)) → Touches (TouchesAt (name_given list)) (WritesListing list listing)
-listing-touches None listing old result new p = λ path. ap (λ (n : List Event). about path n) p.1
-listing-touches (Some name) None old result new p = if-none (is_standard name.bytes.items) old new (λ path. ap (λ (n : List Event). about path n) p.1)
+listing-touches None listing old result new p = λ path. ap (λ (n : List Event). changes_at path n) p.1
+listing-touches (Some name) None old result new p = if-none (is_standard name.bytes.items) old new (λ path. ap (λ (n : List Event). changes_at path n) p.1)
 listing-touches (Some name) (Some listing) old result new p = writes-if (is_standard name.bytes.items) Listing name.bytes.items listing.items old result new p
 
 tape-touches : (given : Option (String Global)) (tape : List ℕ) → Touches (TouchesAt (Some (tape_place given))) (WritesTape given tape)
@@ -207,18 +206,18 @@ outputs-touch form old result new onto p =
 kept-one : (keeps : Bool) (judgment : Judgment) (path name file : List ℕ) → Touches TouchesOne (WritesKept keeps judgment path name file)
 kept-one true judgment path name file old result new p = (path, writes-alone ForImage path name file old result new p)
 kept-one false judgment path name file old (Ok it) new p = absurd p
-kept-one false judgment path name file old (Err ending) new (is, ok, p) = one-none old new (λ other. ap (λ (n : List Event). about other n) p)
+kept-one false judgment path name file old (Err ending) new (is, ok, p) = one-none old new (λ other. ap (λ (n : List Event). changes_at other n) p)
 
 saves-one : (is_same : Bool) (image : Image) (bytes : List ℕ) → Touches TouchesOne (SavesIf is_same image bytes)
-saves-one true image bytes old result new (done, stays) = one-none old new (λ path. ap (λ (n : List Event). about path n) stays)
+saves-one true image bytes old result new (done, stays) = one-none old new (λ path. ap (λ (n : List Event). changes_at path n) stays)
 saves-one false image bytes old result new (inl (refused, inl (held, tells))) = one-none old new (reason-keeps (reason.Fault image.place.why) image.place.name.bytes.items old new tells)
 saves-one false image bytes old result new (inl (refused, inr (cannot, tells))) = one-none old new (reason-keeps reason.NoRoom image.place.name.bytes.items old new tells)
 saves-one false image bytes old result new (inr (held, file, laid, p)) = kept-one (keeps_kind image.judgment file) image.judgment image.place.path.bytes.items image.place.name.bytes.items file old result new p
 
 reports-keep : (lines : List ℕ) (old : List Event) (result : Result (Unit {0}) Ending) (new : List Event) → Reports lines old result new → ChangesNothing old new
-reports-keep lines old (Ok it) new p path = ap (λ (n : List Event). about path n) p
-reports-keep lines old (Err Unreported) new p path = ap (λ (n : List Event). about path n) p
-reports-keep lines old (Err NoReader) new p path = ap (λ (n : List Event). about path n) p
+reports-keep lines old (Ok it) new p path = ap (λ (n : List Event). changes_at path n) p
+reports-keep lines old (Err Unreported) new p path = ap (λ (n : List Event). changes_at path n) p
+reports-keep lines old (Err NoReader) new p path = ap (λ (n : List Event). changes_at path n) p
 reports-keep lines old (Err (Line it)) new p path = absurd p
 reports-keep lines old (Err (Fault it)) new p path = absurd p
 reports-keep lines old (Err Failure) new p path = absurd p

@@ -3,8 +3,7 @@ use Rattle.std.proofs.Common.{◌≡◌, ◌∙◌, ◌||◌, ℕ, Bool, true, f
 use Rattle.std.specs.Global.{Global}
 use Rattle.byte_reader.specs.Readings.{Reading}
 use Rattle.hosts.specs.Event.{Event}
-use Rattle.hosts.specs.Place.{about}
-use Rattle.hosts.specs.Streams.{output}
+use Rattle.hosts.specs.Streams.{output, changes_at}
 use Rattle.hosts.specs.declared.faults.HostFault.TheVariants as host
 use Rattle.program_tasks.specs.declared.archives.IndexForm.{IndexForm}
 use Rattle.program_tasks.specs.declared.forms.BlocksForm.{BlocksForm}
@@ -84,7 +83,7 @@ use Rattle.program.specs.Tasks.{ChoosesStyle, DoesTask, ListsIndex, RunsImage, R
 use Rattle.program_laws.specs.Quiet.{has_output, may_change, saves}
 
 same : {old new : List Event} → new ≡ old → ChangesNothing old new
-same is = λ path. ap (λ (events : List Event). about path events) is
+same is = λ path. ap (λ (events : List Event). changes_at path events) is
 
 -- ## Tries
 
@@ -94,7 +93,7 @@ busy-keeps command keeps (before ∷ earlier) old new (busy, after, last, is) pa
     same is path ∙ keeps before (Err (Busy Held)) after last path ∙ busy-keeps command keeps earlier old before busy path
 
 pub busy-told : {A : Type 0} (name : List ℕ) (result : Result A Ending) (old new : List Event) → TellsBusy name result old new → DoesNothing old new
-busy-told name result old new (inl p) = (λ path. ap (λ (events : List Event). about path events) p.1, ap output p.1)
+busy-told name result old new (inl p) = (λ path. ap (λ (events : List Event). changes_at path events) p.1, ap output p.1)
 busy-told name result old new (inr p) = (λ path. reason-keeps (reason.Fault host.Busy) name old new p.1 path, unless-output false (reason.Fault host.Busy) name old new p.1)
 
 within-keeps : {A : Type 0} (seconds : ℕ) (name : List ℕ) (command : List Event → Result A Ending → List Event → Type 0) → KeepsFiles command → KeepsFiles (Within seconds name command)
@@ -119,9 +118,9 @@ prints-outcome : (it : Outcome) (old : List Event) (result : Result (Unit {0}) E
 prints-outcome it old result new (ok, p) path = prints-line it.stream it.line.items (with_note it.note ok old) result new p path ∙ noted it.note ok old path
 
 pub tells-state : (state : Option ChangeState) (notes : Option ImageNotes) (old new : List Event) → TellsState state notes old new → DoesNothing old new
-tells-state None notes old new p = (λ path. ap (λ (events : List Event). about path events) p, ap output p)
-tells-state (Some state) None old new p = (λ path. ap (λ (events : List Event). about path events) p, ap output p)
-tells-state (Some state) (Some notes) old new (ok, p) = (λ path. ap (λ (events : List Event). about path events) p, ap output p)
+tells-state None notes old new p = (λ path. ap (λ (events : List Event). changes_at path events) p, ap output p)
+tells-state (Some state) None old new p = (λ path. ap (λ (events : List Event). changes_at path events) p, ap output p)
+tells-state (Some state) (Some notes) old new (ok, p) = (λ path. ap (λ (events : List Event). changes_at path events) p, ap output p)
 
 ends-unread : (is_data : Bool) (state : Option ChangeState) (notes : Option ImageNotes) (refusal : ℕ) (ending : Ending) (old new : List Event) (status : ℕ) → EndsUnread is_data state notes refusal ending old new status → ChangesNothing old new
 ends-unread is_data state notes refusal NoReader old new status p path = same p.0 path
@@ -169,14 +168,14 @@ run-busy named form is_typed input keeps (before ∷ earlier) old new (busy, aft
 run-keeps : (named : ImageForm) (form : RunForm) (is_typed : Bool) (input : Reading) → KeepsFiles (RunsScript named form is_typed input) → KeepsFiles (RunsImage named form is_typed input)
 run-keeps named form is_typed input keeps old result new (inl ends) path = first result ends
   where
-    first : (r : Result (Unit {0}) Ending) → Ends (Within named.wait named.file.bytes.items (OpensFor form.saving named)) old r new → about path new ≡ about path old
+    first : (r : Result (Unit {0}) Ending) → Ends (Within named.wait named.file.bytes.items (OpensFor form.saving named)) old r new → changes_at path new ≡ changes_at path old
     first (Ok it) e = absurd e
     first (Err ending) w = (busy-told named.file.bytes.items (Err ending) w.after new w.told).0 path ∙ keeps w.between (Err ending) w.after (inl w.last) path
         ∙ run-busy named form is_typed input keeps w.tries old w.between w.busy path
 run-keeps named form is_typed input keeps old result new (inr it) path = last it.done.told
   where
     -- an image that was opened is not busy, so nothing is printed of that
-    last : TellsBusy named.file.bytes.items (Ok it.given) it.done.after it.between → about path new ≡ about path old
+    last : TellsBusy named.file.bytes.items (Ok it.given) it.done.after it.between → changes_at path new ≡ changes_at path old
     last (inl p) = keeps it.done.between result new (inr (record { given = it.given; between = it.done.after; done = it.done.last; after = subst (λ (n : List Event). RunsOver form is_typed it.given input n result new) p.1 it.after })) path
         ∙ run-busy named form is_typed input keeps it.done.tries old it.done.between it.done.busy path
     last (inr p) = absurd (not-busy it.given p.0)

@@ -18,6 +18,7 @@ use Rattle.image_files.specs.Work.{Then}
 use Rattle.image_files.specs.declared.images.Image.{Image}
 use Rattle.script_commands.specs.Scripts.{MountsSession, OpensFor, RunsOver, RunsSession, is_parted}
 use Rattle.image_files.specs.Waiting.{TellsBusy}
+use Rattle.image_files.proofs.KeepLemmas.{of-file}
 use Rattle.program.specs.Tasks.{RunsImage, RunsTask}
 use Rattle.program_laws.specs.Runs.{HasRun, HoldsVolume}
 use Rattle.program_laws.proofs.QuietLemmas.{ends-so}
@@ -37,7 +38,7 @@ none-told name image old new (inr p) = absurd (not-busy image p.0)
 module _ (named : ImageForm) (form : RunForm) (is_typed : Bool) (input : Reading) where
   still-holds : (start : Place) (path : List ℕ) (blocks : List (List ℕ)) (ended new : List Event) → ChangesNothing ended new → HoldsVolume start path blocks ended → HoldsVolume start path blocks new
   still-holds start path blocks ended new same h =
-      record { image = h.image; of_blocks = h.of_blocks; seen = ap (λ (s : List HostStep). (replay start s).seen) (same path) ∙ h.seen }
+      record { image = h.image; of_blocks = h.of_blocks; seen = ap (λ (s : List HostStep). (replay start s).seen) (of-file path (same path)) ∙ h.seen }
 
   has-run : (image : Image) (session : SessionView) (before begun ended new : List Event) → OpensFor form.saving named before (Ok image) begun → (r : RunsSession form is_typed image session input begun (Ok tt) ended)
       → ChangesNothing ended new → HasRun named form is_typed input new

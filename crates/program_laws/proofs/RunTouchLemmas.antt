@@ -4,6 +4,7 @@ use Rattle.byte_reader.specs.Readings.{Reading}
 use Rattle.hosts.specs.Event.{Event}
 use Rattle.hosts.specs.Place.{Step as HostStep, about, replay}
 use Rattle.hosts.specs.Saving.{ClearsBeside, IsClear}
+use Rattle.hosts.specs.Streams.{changes_at}
 use Rattle.outcome.specs.declared.contents.Content.TheVariants as content
 use Rattle.outcome.specs.declared.endings.Ending.{Ending}
 use Rattle.outcome.specs.declared.endings.Ending.TheVariants.{Busy}
@@ -49,6 +50,7 @@ alone-then : (path : List ℕ) (old mid new : List Event) → ChangesNoOther pat
 alone-then path old mid new first next = record {
   others = λ other apart. next.others other apart ∙ first.others other apart;
   beside = clears-then (about path old) (about path mid) (about path new) first.beside next.beside;
+  keeps_folders = next.keeps_folders ∙ first.keeps_folders;
 }
 
 -- ## The steps of a run
@@ -64,11 +66,11 @@ touched-then place old mid new (inr (held, first)) (inl next) = inr (held, alone
 touched-then place old mid new (inr (held, first)) (inr (again, next)) = inr (held, alone-then place.path.bytes.items old mid new first next)
 
 same : (place : ImagePlace) (old new : List Event) → new ≡ old → Touched place old new
-same place old new is = inl (λ path. ap (λ (events : List Event). about path events) is)
+same place old new is = inl (λ path. ap (λ (events : List Event). changes_at path events) is)
 
 unwritten-touched : (before : Image) (file : List ℕ) (ending : Ending) (old new : List Event) → before.place.is_held ≡ true
     → IsUnwritten before.judgment before.place.path.bytes.items before.place.name.bytes.items file ending old new → Touched before.place old new
-unwritten-touched before file ending old new held (inl (kind, (is, ok, p))) = inl (λ path. ap (λ (events : List Event). about path events) p)
+unwritten-touched before file ending old new held (inl (kind, (is, ok, p))) = inl (λ path. ap (λ (events : List Event). changes_at path events) p)
 unwritten-touched before file ending old new held (inr p) = inr (held, writes-alone content.Image before.place.path.bytes.items before.place.name.bytes.items file old (Err ending) new p)
 
 unsaved-touched : (before : Image) (ending : Ending) (old new : List Event) → StaysUnsaved before ending old new → Touched before.place old new
@@ -80,10 +82,10 @@ step-touched : (is_typed : Bool) (start : Image) (earlier : List Step) (step : S
 step-touched is_typed start earlier (Saves image durability) old new (none, got) = inr (got.held, alone-only (last_image start earlier).place.path.bytes.items old new got.only)
 step-touched is_typed start earlier (Fails ending) old new (none, it) = unsaved-touched (last_image start earlier) ending old new it
 step-touched is_typed start earlier (Replies entry answer blocks) old new is = same (last_image start earlier).place old new is
-step-touched is_typed start earlier (Prints bytes) old new (going, all, is) = inl (λ path. ap (λ (events : List Event). about path events) is)
-step-touched is_typed start earlier (Refuses fault bytes) old new (going, is) = inl (λ path. ap (λ (events : List Event). about path events) is)
-step-touched is_typed start earlier (Shows form) old new (typed, ok, is) = inl (λ path. ap (λ (events : List Event). about path events) is)
-step-touched is_typed start earlier Cuts old new (ok, is) = inl (λ path. ap (λ (events : List Event). about path events) is)
+step-touched is_typed start earlier (Prints bytes) old new (going, all, is) = inl (λ path. ap (λ (events : List Event). changes_at path events) is)
+step-touched is_typed start earlier (Refuses fault bytes) old new (going, is) = inl (λ path. ap (λ (events : List Event). changes_at path events) is)
+step-touched is_typed start earlier (Shows form) old new (typed, ok, is) = inl (λ path. ap (λ (events : List Event). changes_at path events) is)
+step-touched is_typed start earlier Cuts old new (ok, is) = inl (λ path. ap (λ (events : List Event). changes_at path events) is)
 
 steps-touched : (is_typed : Bool) (start : Image) (steps : List Step) (old new : List Event) → AreDone is_typed start steps old new → Touched start.place old new
 steps-touched is_typed start [] old new done = same start.place old new done
@@ -126,12 +128,12 @@ module _ (named : ImageForm) (form : RunForm) (is_typed : Bool) (input : Reading
 
     held-run : (image : Image) (old between after begun new : List Event) → ChangesNothing old between → OpensForScript named between (Ok image) after → begun ≡ after → Touched image.place begun new → TouchesRun named old new
     held-run image old between after begun new waited opens is (inl none) =
-        (between, waited, inl (λ path. none path ∙ ap (λ (events : List Event). about path events) is ∙ opens-for-script-keeps named between (Ok image) after opens path))
+        (between, waited, inl (λ path. none path ∙ ap (λ (events : List Event). changes_at path events) is ∙ opens-for-script-keeps named between (Ok image) after opens path))
     held-run image old between after begun new waited opens is (inr (held, alone)) =
         let r : ReadsHeld named image between after = script-held named between image after opens in
         let path = looked_name image.place named.file.bytes.items in
         let leads : path ≡ image.place.path.bytes.items = ap (λ (b : Bool). if b then image.place.path.bytes.items else named.file.bytes.items) held in
-        let quiet : ChangesNothing between begun = λ other. ap (λ (events : List Event). about other events) is ∙ opens-for-script-keeps named between (Ok image) after opens other in (
+        let quiet : ChangesNothing between begun = λ other. ap (λ (events : List Event). changes_at other events) is ∙ opens-for-script-keeps named between (Ok image) after opens other in (
           between,
           waited,
           inr (record {

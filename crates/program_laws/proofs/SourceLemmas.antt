@@ -2,8 +2,7 @@
 use Rattle.std.proofs.Common.{ℕ, Bool, true, false, Option, None, Some, String, Result, Ok, Err, List, [], ◌∷◌, ◌++◌, ap, inl, inr, map}
 use Rattle.std.specs.Global.{Vec, Global}
 use Rattle.hosts.specs.Event.{Event, failed_same}
-use Rattle.hosts.specs.Place.{about}
-use Rattle.hosts.specs.Streams.{output}
+use Rattle.hosts.specs.Streams.{output, changes_at}
 use Rattle.archive_files.specs.Asking.{Target, target_of}
 use Rattle.outcome.specs.declared.contents.Content.{Content}
 use Rattle.outcome.specs.declared.contents.Content.TheVariants.{Tape, Listing}
@@ -56,11 +55,11 @@ opens-vain form old (Err ending) new p = (λ path. opens-keeps form old (Err end
 -- ## Sources
 
 looks-vain : (name : List ℕ) → IsVain (Looks name name)
-looks-vain name old (Ok bytes) new p = (λ path. ap (λ (n : List Event). about path n) p.1, ap output p.1)
+looks-vain name old (Ok bytes) new p = (λ path. ap (λ (n : List Event). changes_at path n) p.1, ap output p.1)
 looks-vain name old (Err ending) new p = (λ path. looks-keeps name name old (Err ending) new p path, (looks-refuses name name old ending new p).1)
 
 input-vain : IsVain TakesInput
-input-vain old (Ok bytes) new p = (λ path. ap (λ (n : List Event). about path n) p.1, ap output p.1)
+input-vain old (Ok bytes) new p = (λ path. ap (λ (n : List Event). changes_at path n) p.1, ap output p.1)
 input-vain old (Err ending) new p = (λ path. input-keeps old (Err ending) new p path, (reads-refuses true [] old ending new p).1)
 
 named-vain : (is : Bool) (name : List ℕ) (why : Ending) (old : List Event) (ending : Ending) (new : List Event) → NamesIf is name why old ending new → DoesNothing old new
@@ -95,9 +94,9 @@ each-vain volume texts (name ∷ names) = then-vain (ReadsSource volume name) (�
 -- ## What is asked of the host before anything is written
 
 apart-vain : (content : Content) (place input : List ℕ) → IsVain (IsApart content place input)
-apart-vain content place input old (Ok it) new p = (λ path. ap (λ (n : List Event). about path n) p, ap output p)
-apart-vain content place input old (Err ending) new (inl (inl (is, ok, p))) = (λ path. ap (λ (n : List Event). about path n) p, ap output p)
-apart-vain content place input old (Err ending) new (inl (inr p)) = (λ path. ap (λ (n : List Event). about path n) p.1, ap output p.1)
+apart-vain content place input old (Ok it) new p = (λ path. ap (λ (n : List Event). changes_at path n) p, ap output p)
+apart-vain content place input old (Err ending) new (inl (inl (is, ok, p))) = (λ path. ap (λ (n : List Event). changes_at path n) p, ap output p)
+apart-vain content place input old (Err ending) new (inl (inr p)) = (λ path. ap (λ (n : List Event). changes_at path n) p.1, ap output p.1)
 apart-vain content place input old (Err ending) new (inr (fault, is, p)) = (
   λ path. unless-keeps (is_untold content fault) (reason.Fault fault) place (failed_same place input fault ∷ old) new p path,
   unless-output (is_untold content fault) (reason.Fault fault) place (failed_same place input fault ∷ old) new p,

@@ -5,7 +5,7 @@ use Rattle.byte_reader.specs.Readings.{Reading}
 use Rattle.hosts.specs.Event.{Event}
 use Rattle.hosts.specs.Place.{Step, about, replay}
 use Rattle.hosts.specs.Saving.{IsAsItWas, StaysAsItWas}
-use Rattle.hosts.specs.Streams.{output}
+use Rattle.hosts.specs.Streams.{output, changes_at}
 use Rattle.hosts.specs.declared.faults.Unwritten.TheVariants as unwritten
 use Rattle.refusals.specs.declared.faults.SessionFault.{SessionFault}
 use Rattle.refusals.specs.declared.faults.SessionFault.TheVariants as session
@@ -39,6 +39,7 @@ use Rattle.image_files.specs.declared.states.ImageNotes.{ImageNotes}
 use Rattle.image_files.specs.Work.{Then}
 use Rattle.program.specs.Asking.{AsksFirst, AsksFull, AsksSeen, IsFull}
 use Rattle.image_files.specs.Waiting.{AreBusy, Within}
+use Rattle.image_files.proofs.KeepLemmas.{of-file}
 use Rattle.program.specs.Tasks.{DoesTask, RunsTask}
 use Rattle.keeper_laws.specs.Changes.{HasDeleted, HasEmptied, HasPatched, HasRenamed, HasSqueezed}
 use Rattle.keeper_laws.specs.Copied.{HasCopied}
@@ -199,20 +200,20 @@ done-fails notes it old new status e other = omega (
 -- ## A question before
 
 seen-nothing : (name : List ℕ) (input : Reading) (is : Bool) (old : List Event) (result : Result (Unit {0}) Ending) (new : List Event) → AsksFull name input is old result new → DoesNothing old new
-seen-nothing name input false old result new p = (λ path. ap (λ (n : List Event). about path n) p.1, ap output p.1)
-seen-nothing name input true old (Ok it) new (is, ok, p) = (λ path. ap (λ (n : List Event). about path n) p, ap output p)
-seen-nothing name input true old (Err ending) new (inl (is, so, ok, p)) = (λ path. ap (λ (n : List Event). about path n) p, ap output p)
-seen-nothing name input true old (Err ending) new (inr p) = (λ path. ap (λ (n : List Event). about path n) p.1, ap output p.1)
+seen-nothing name input false old result new p = (λ path. ap (λ (n : List Event). changes_at path n) p.1, ap output p.1)
+seen-nothing name input true old (Ok it) new (is, ok, p) = (λ path. ap (λ (n : List Event). changes_at path n) p, ap output p)
+seen-nothing name input true old (Err ending) new (inl (is, so, ok, p)) = (λ path. ap (λ (n : List Event). changes_at path n) p, ap output p)
+seen-nothing name input true old (Err ending) new (inr p) = (λ path. ap (λ (n : List Event). changes_at path n) p.1, ap output p.1)
 
 full-nothing : (name : List ℕ) (is : Bool) (old new : List Event) → IsFull name is old new → DoesNothing old new
-full-nothing name is old new (inl (bytes, so, p)) = (λ path. ap (λ (n : List Event). about path n) p, ap output p)
-full-nothing name is old new (inr (fault, so, p)) = (λ path. ap (λ (n : List Event). about path n) p, ap output p)
+full-nothing name is old new (inl (bytes, so, p)) = (λ path. ap (λ (n : List Event). changes_at path n) p, ap output p)
+full-nothing name is old new (inr (fault, so, p)) = (λ path. ap (λ (n : List Event). changes_at path n) p, ap output p)
 
 pub nothing-joined : (old mid new : List Event) → DoesNothing old mid → DoesNothing mid new → DoesNothing old new
 nothing-joined old mid new first next = (λ path. next.0 path ∙ first.0 path, next.1 ∙ first.1)
 
 asked-nothing : (name : List ℕ) (input : Reading) (is : Bool) (old : List Event) (result : Result (Unit {0}) Ending) (new : List Event) → AsksSeen name input is old result new → DoesNothing old new
-asked-nothing name input false old result new p = (λ path. ap (λ (n : List Event). about path n) p.1, ap output p.1)
+asked-nothing name input false old result new p = (λ path. ap (λ (n : List Event). changes_at path n) p.1, ap output p.1)
 asked-nothing name input true old (Ok it) new (inl p) = absurd p
 asked-nothing name input true old (Err ending) new (inl p) = absurd p
 asked-nothing name input true old result new (inr p) =
@@ -220,12 +221,12 @@ asked-nothing name input true old result new (inr p) =
 
 -- who is asked, and answers, has changed no file, and nothing is printed on standard output
 pub asks-nothing : (is_typed : Bool) (replaced : Option (List ℕ)) (input : Reading) (old : List Event) (result : Result (Unit {0}) Ending) (new : List Event) → AsksFirst is_typed replaced input old result new → DoesNothing old new
-asks-nothing false replaced input old result new p = (λ path. ap (λ (n : List Event). about path n) p.1, ap output p.1)
-asks-nothing true None input old result new p = (λ path. ap (λ (n : List Event). about path n) p.1, ap output p.1)
+asks-nothing false replaced input old result new p = (λ path. ap (λ (n : List Event). changes_at path n) p.1, ap output p.1)
+asks-nothing true None input old result new p = (λ path. ap (λ (n : List Event). changes_at path n) p.1, ap output p.1)
 asks-nothing true (Some name) input old (Ok it) new (inl p) = absurd p
 asks-nothing true (Some name) input old (Err ending) new (inl p) = absurd p
 asks-nothing true (Some name) input old result new (inr p) =
-    nothing-joined old p.between new (λ path. ap (λ (n : List Event). about path n) p.done, ap output p.done) (asked-nothing name input p.given p.between result new p.after)
+    nothing-joined old p.between new (λ path. ap (λ (n : List Event). changes_at path n) p.done, ap output p.done) (asked-nothing name input p.given p.between result new p.after)
 
 -- ## The meaning of a status
 
@@ -309,7 +310,7 @@ unchanged : (old new : List Step) → new ≡ old → StaysAsItWas old new
 unchanged old new is start = subst (λ (n : List Step). IsAsItWas (replay start old) (replay start n)) (sym is) (record { seen = refl; on_disk = refl; earlier = refl })
 
 all-stay : (form : ImageForm) (old new : List Event) → DoesNothing old new → AllStay form old new
-all-stay form old new none = record { files = λ path. unchanged (about path old) (about path new) (none.0 path); touches = inl none.0; prints = none.1 }
+all-stay form old new none = record { files = λ path. unchanged (about path old) (about path new) (of-file path (none.0 path)); touches = inl none.0; prints = none.1 }
 
 pub image-stays : (form : ImageForm) (old new : List Event) → DoesNothing old new → LeavesImage form old new
 image-stays form old new none = inl (all-stay form old new none)
@@ -333,11 +334,11 @@ change-weighs form done reports = record { well = λ it old new s. (s, reports.w
 -- each try that found the image busy did nothing
 pub busy-nothing : (command : List Event → Result (Unit {0}) Ending → List Event → Type 0) → ((old new : List Event) → command old (Err (Busy Held)) new → DoesNothing old new)
     → (begun : List (List Event)) (old mid new : List Event) → DoesNothing old mid → AreBusy command begun mid new → DoesNothing old new
-busy-nothing command gives [] old mid new nothing is = (λ path. ap (λ (n : List Event). about path n) is ∙ nothing.0 path, ap output is ∙ nothing.1)
+busy-nothing command gives [] old mid new nothing is = (λ path. ap (λ (n : List Event). changes_at path n) is ∙ nothing.0 path, ap output is ∙ nothing.1)
 busy-nothing command gives (before ∷ earlier) old mid new nothing (busy, after, last, is) =
     let so = gives before after last in
     let first = busy-nothing command gives earlier old mid before nothing busy in
-    (λ path. ap (λ (n : List Event). about path n) is ∙ so.0 path ∙ first.0 path, ap output is ∙ so.1 ∙ first.1)
+    (λ path. ap (λ (n : List Event). changes_at path n) is ∙ so.0 path ∙ first.0 path, ap output is ∙ so.1 ∙ first.1)
 
 module _ (form : ImageForm) (done : Bool → List Event → List Event → Type 0) (reports : Reports done) (command : List Event → Result (Unit {0}) Ending → List Event → Type 0)
     (ends : (old : List Event) (result : Result (Unit {0}) Ending) (new : List Event) → command old result new → EndsAs form done result old new) (seconds : ℕ) (name : List ℕ) (it : Task) (is_typed : Bool) (input : Reading)

@@ -2,7 +2,7 @@
 use Rattle.std.proofs.Common.{◌≡◌, ◌∙◌, ◌≤◌, ℕ, Bool, true, false, nat_eq, Result, Ok, List, [], ◌∷◌, length, refl, ap, subst, arith, inl, inr}
 use Rattle.std.proofs.lemmas.Bool.{eqb-true}
 use Rattle.hosts.specs.Event.{Event, leftovers_call}
-use Rattle.hosts.specs.Place.{about}
+use Rattle.hosts.specs.Streams.{changes_at}
 use Rattle.outcome.specs.declared.endings.Ending.{Ending}
 use Rattle.image_files.specs.Laws.{ChangesNothing}
 use Rattle.image_files.specs.Reading.{Holds, HoldsAt}
@@ -33,8 +33,8 @@ pub has-held : (name : List ℕ) (place : ImagePlace) (old new : List Event) →
 has-held name place old new p held = holds-at name place old new (subst (λ (b : Bool). HoldsAt name place b old new) held p.1)
 
 at-keeps : (name : List ℕ) (place : ImagePlace) (is_held : Bool) (old new : List Event) → HoldsAt name place is_held old new → ChangesNothing old new
-at-keeps name place true old new (true, ok, is) path = ap (λ (n : List Event). about path n) is
-at-keeps name place true old new (false, ok, is) path = ap (λ (n : List Event). about path n) is
+at-keeps name place true old new (true, ok, is) path = ap (λ (n : List Event). changes_at path n) is
+at-keeps name place true old new (false, ok, is) path = ap (λ (n : List Event). changes_at path n) is
 at-keeps name place false old new p path = p.0.files path
 
 pub hold-keeps : (name : List ℕ) (place : ImagePlace) (old new : List Event) → Holds name old (Ok place) new → ChangesNothing old new

@@ -2,7 +2,7 @@
 use Rattle.std.proofs.Common.{◌≡◌, ◌∙◌, ◌⊎◌, ℕ, Bool, true, false, None, Err, List, ap, subst, arith, inl, inr, refl}
 use Rattle.clap.specs.Words.{kind_of}
 use Rattle.hosts.specs.Event.{Event}
-use Rattle.hosts.specs.Place.{about}
+use Rattle.hosts.specs.Streams.{changes_at}
 use Rattle.command_refusals.specs.declared.faults.TaskFault.{TaskFault}
 use Rattle.command_refusals.specs.declared.faults.TaskFault.TheVariants.{Words, Memory, Refused}
 use Rattle.refusals.specs.declared.faults.SessionFault.TheVariants.{Memory as no_memory}
@@ -23,7 +23,7 @@ wants-keep : (old new : List Event) (status : ℕ) → WantsMemory old new statu
 wants-keep old new status p = ends-so false None (Err (Fault no_memory)) old new status p
 
 misuse-keeps : (old new : List Event) (status : ℕ) → IsMisuse old new status → ChangesNothing old new
-misuse-keeps old new status p path = ap (λ (n : List Event). about path n) p.tells
+misuse-keeps old new status p path = ap (λ (n : List Event). changes_at path n) p.tells
 
 shown-keeps : PrintsKeep → (old new : List Event) (status : ℕ) → IsShown old new status → ChangesNothing old new
 shown-keeps prints old new status p path = ends-so false None p.work p.between new status p.ends path ∙ prints p.text old p.work p.between p.prints path

@@ -49,7 +49,7 @@ use script_commands::laws::unchanged_files as unchanged_scripts;
 use show_commands::laws::shown_images;
 use tape_commands::laws::unchanged_files as unchanged_programs;
 
-/// A task that isn't to change a file changes none, in whichever way it ends.
+/// A task that isn't to change a file changes none and makes no folder, in whichever way it ends.
 pub fn quiet_tasks<I: ByteReader>()
     ensures does { (it : Asked) (is_typed : Bool) (before after : I) → may_change it ≡ false
         → KeepsFiles (DoesTask it is_typed (reading I.remaining I.has_failed before after)) }

@@ -3,7 +3,7 @@ use Rattle.std.proofs.Common.{◌≡◌, ◌∙◌, ℕ, zero, suc, Bool, false,
 use Rattle.std.specs.Global.{Global}
 use Rattle.byte_reader.specs.Readings.{Reading}
 use Rattle.hosts.specs.Event.{Event}
-use Rattle.hosts.specs.Place.{about}
+use Rattle.hosts.specs.Streams.{changes_at}
 use Rattle.hosts.specs.declared.faults.PrintFault.{PrintFault}
 use Rattle.host_output.specs.Printing.{HasPrinted}
 use Rattle.terminal8.specs.declared.outcomes.Ended.{Ended}
@@ -43,7 +43,7 @@ ready-unplaced form is ready old new (inr it) = subst AreUnplaced (sym it.after.
 
 -- ## The end
 
-pub line-keeps : (path line : List ℕ) (old new : List Event) → TellsLine line old new → about path new ≡ about path old
+pub line-keeps : (path line : List ℕ) (old new : List Event) → TellsLine line old new → changes_at path new ≡ changes_at path old
 line-keeps path line old new (inl (utf8, ok, is)) = same path is
 line-keeps path line old new (inr (not_utf8, is)) = same path is
 
@@ -59,31 +59,31 @@ run-ends stand why (Err Writer) old result new p path = same path p.1
 
 -- ## Between two rounds
 
-asks-keep : (name : Option (String Global)) (old : List Event) (is_asked : Bool) (new : List Event) → AsksForEnd name old is_asked new → (path : List ℕ) → about path new ≡ about path old
+asks-keep : (name : Option (String Global)) (old : List Event) (is_asked : Bool) (new : List Event) → AsksForEnd name old is_asked new → (path : List ℕ) → changes_at path new ≡ changes_at path old
 asks-keep None old is_asked new p path = same path p.1
 asks-keep (Some name) old is_asked new p path = same path p
 
-asks-then-keep : (name : Option (String Global)) (old : List Event) (result : Result Bool Ending) (new : List Event) → AsksThen name old result new → (path : List ℕ) → about path new ≡ about path old
+asks-then-keep : (name : Option (String Global)) (old : List Event) (result : Result Bool Ending) (new : List Event) → AsksThen name old result new → (path : List ℕ) → changes_at path new ≡ changes_at path old
 asks-then-keep name old (Ok is_asked) new p path = asks-keep name old is_asked new p path
 asks-then-keep name old (Err ending) new p path = absurd p
 
 after-keeps : (name : Option (String Global)) (saved : Result (Unit {0}) Ending) (old : List Event) (result : Result Bool Ending) (new : List Event) → DoesAfter name saved old result new
-    → (path : List ℕ) → about path new ≡ about path old
+    → (path : List ℕ) → changes_at path new ≡ changes_at path old
 after-keeps name (Ok it) old result new p path = asks-then-keep name old result new p path
 after-keeps name (Err ending) old (Ok it) new p path = absurd p
 after-keeps name (Err ending) old (Err why) new p path = same path p.1
 
 between-keeps : (form : ConsoleForm) (steps : ℕ) (s : Console) (kept kept' : SavedPlaces) (old : List Event) (result : Result Bool Ending) (new : List Event) → AreNone kept.0 → DoesBetween form steps s kept kept' old result new
-    → ((path : List ℕ) → about path new ≡ about path old) × AreNone kept'.0
+    → ((path : List ℕ) → changes_at path new ≡ changes_at path old) × AreNone kept'.0
 between-keeps form steps s kept kept' old result new none (inl (due, is, p)) = (asks-then-keep form.ends_with old result new p, subst (λ (k : SavedPlaces). AreNone k.0) (sym is) none)
 between-keeps form steps s kept kept' old result new none (inr (saved, between, saves, p)) =
     let q = saves-no-place s.machine.disk kept.0 kept'.0 old saved between none saves.saves in
     (λ path. after-keeps form.ends_with saved between result new p path ∙ same path q.0, q.1)
 
 -- what the crate below knows of prints is handed in
-module _ (output-keeps : (old new : List Event) (why : Option PrintFault) (path : List ℕ) → HasPrinted old new why → about path new ≡ about path old) where
+module _ (output-keeps : (old new : List Event) (why : Option PrintFault) (path : List ℕ) → HasPrinted old new why → changes_at path new ≡ changes_at path old) where
   rounds-keep : (form : ConsoleForm) (first : Console) (count steps : ℕ) (kept kept' : SavedPlaces) (old new : List Event) → AreNone kept.0 → Rounds form first count steps kept kept' old new
-      → ((path : List ℕ) → about path new ≡ about path old) × AreNone kept'.0
+      → ((path : List ℕ) → changes_at path new ≡ changes_at path old) × AreNone kept'.0
   rounds-keep form first zero steps kept kept' old new none (made, is, p) = (λ path. same path p, subst (λ (k : SavedPlaces). AreNone k.0) (sym is) none)
   rounds-keep form first (suc k) steps kept kept' old new none (earlier, mid, before, printed, looks, less, rounds, prints, does) =
       let r = rounds-keep form first k earlier kept mid old before none rounds in
@@ -91,13 +91,13 @@ module _ (output-keeps : (old new : List Event) (why : Option PrintFault) (path 
       (λ path. q.0 path ∙ (output-keeps before printed None path prints ∙ r.0 path), q.1)
 
   run-keeps : (form : ConsoleForm) (first after : Console) (places places' : Places) (keys : Reading) (old : List Event) (ran : Ran) (new : List Event) → AreNone places
-      → RunsRounds form first after places places' keys old ran new → ((path : List ℕ) → about path new ≡ about path old) × AreNone places'
+      → RunsRounds form first after places places' keys old ran new → ((path : List ℕ) → changes_at path new ≡ changes_at path old) × AreNone places'
   run-keeps form first after places places' keys old ran new none r =
       let before = rounds-keep form first r.count r.steps (places, none_saved) r.mid old r.before none r.rounds in
       last-keeps form after r.mid (places', r.left) r.most r.before ran new before.1 r.last (λ path is. is ∙ before.0 path)
     where
       last-keeps : (form : ConsoleForm) (s : Console) (mid kept' : SavedPlaces) (most : ℕ) (before : List Event) (ran : Ran) (new : List Event) → AreNone mid.0 → EndsOrBreaks form s mid kept' most before ran new
-          → ((path : List ℕ) → about path new ≡ about path before → about path new ≡ about path old) → ((path : List ℕ) → about path new ≡ about path old) × AreNone kept'.0
+          → ((path : List ℕ) → changes_at path new ≡ changes_at path before → changes_at path new ≡ changes_at path old) → ((path : List ℕ) → changes_at path new ≡ changes_at path old) × AreNone kept'.0
       last-keeps form s mid kept' most before ran new none (inl (all, prints, done, is)) go = (λ path. go path (output-keeps before new ran.fault path prints), subst (λ (k : SavedPlaces). AreNone k.0) (sym is) none)
       last-keeps form s mid kept' most before ran new none (inr (printed, result, prints, does, broken, fault)) go =
           let q = between-keeps form most s mid kept' printed result new none does in

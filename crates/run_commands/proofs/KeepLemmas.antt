@@ -5,7 +5,7 @@ use Rattle.bin_tape.specs.Items.{Item, words_of}
 use Rattle.bin_tape.specs.Tape.{IsTape}
 use Rattle.byte_reader.specs.Readings.{Reading}
 use Rattle.hosts.specs.Event.{Event}
-use Rattle.hosts.specs.Place.{about}
+use Rattle.hosts.specs.Streams.{changes_at}
 use Rattle.hosts.specs.declared.faults.PrintFault.{PrintFault}
 use Rattle.host_output.specs.Printing.{HasPrinted}
 use Rattle.terminal8.specs.declared.outcomes.Ended.{Ended}
@@ -64,7 +64,7 @@ use Rattle.run_commands.specs.declared.drives8e.Station.{Station}
 use Rattle.run_commands.specs.declared.printing.Stand.{Stand}
 use Rattle.run_commands.specs.declared.runs.Run.{Run}
 
-tells-keeps : (path : List ℕ) (note : Option PlainNote) (old new : List Event) → Tells note old new → about path new ≡ about path old
+tells-keeps : (path : List ℕ) (note : Option PlainNote) (old new : List Event) → Tells note old new → changes_at path new ≡ changes_at path old
 tells-keeps path None old new p = same path p
 tells-keeps path (Some note) old new p = same path p.1
 
@@ -190,8 +190,8 @@ module _ (form : DiskForm) (asked : DeviceForm) (program : CoreProgram) (is : ar
 module _
     (prints-keeps : (bytes : List ℕ) → KeepsFiles (Prints bytes))
     (program-keeps : (form : TapeForm) → KeepsFiles (ReadsProgram form))
-    (frames-keeps : (frames : List ℕ) (why : Ending) (old : List Event) (ending : Ending) (new : List Event) → RefusesFrames frames why old ending new → (path : List ℕ) → about path new ≡ about path old)
-    (output-keeps : (old new : List Event) (why : Option PrintFault) (path : List ℕ) → HasPrinted old new why → about path new ≡ about path old)
+    (frames-keeps : (frames : List ℕ) (why : Ending) (old : List Event) (ending : Ending) (new : List Event) → RefusesFrames frames why old ending new → (path : List ℕ) → changes_at path new ≡ changes_at path old)
+    (output-keeps : (old new : List Event) (why : Option PrintFault) (path : List ℕ) → HasPrinted old new why → changes_at path new ≡ changes_at path old)
   where
     loads-keeps : (frames : List ℕ) → KeepsFiles (LoadsCore frames)
     loads-keeps frames old (Ok core) new p path = same path p.1

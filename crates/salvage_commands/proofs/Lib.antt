@@ -1,3 +1,4 @@
 mod ScanLemmas
 mod PathLemmas
 mod ReplaceLemmas
+mod FolderLemmas

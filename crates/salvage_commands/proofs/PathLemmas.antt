@@ -5,6 +5,7 @@ use Rattle.std.specs.Str.{bytes_eq}
 use Rattle.std.proofs.lemmas.Slice.Eq.{bytes_eq-Decides}
 use Rattle.hosts.specs.Event.{Event, Look, MakeFolder, failed_call}
 use Rattle.hosts.specs.Place.{about}
+use Rattle.hosts.specs.Streams.{changes_at}
 use Rattle.image_kind.specs.declared.kinds.ImageKind.{ImageKind}
 use Rattle.image_kind.specs.Keeping.{two_readings}
 use Rattle.image_kind.specs.Margins.{body_of}
@@ -26,6 +27,7 @@ use Rattle.image_kind.specs.Lines.{mended_lines}
 use Rattle.image_files.specs.Judging.{Judges, JudgesBy}
 use Rattle.image_files.specs.Mending.{Mends, TellsLines}
 use Rattle.image_files.specs.Reasons.{is_want_of_memory, reason_of_first}
+use Rattle.image_files.proofs.KeepLemmas.{of-both, of-file}
 use Rattle.image_files.proofs.ReasonLemmas.{unless-keeps}
 use Rattle.outcome.specs.declared.reasons.Reason.TheVariants as reason
 use Rattle.image_files.specs.Reading.{IsUnread, FindsIn, FindsOne, Looks, LooksAt, LooksIf, LooksImage, reading_of, IsJudged, JudgesLooked}
@@ -39,15 +41,15 @@ use Rattle.volume_salvage.specs.declared.scans.Scan.{Scan}
 use Rattle.salvage_commands.specs.Laws.{ChangesPiecesAlone, IsOfNone}
 use Rattle.salvage_commands.specs.ScanningBlocks.{GivesPiece, IsPath, LaysFirst, MakesFolder, WritesAll, WritesEach, WritesPiece}
 
--- a step leaves a path as it was
+-- a step leaves a path as it was, and makes no folder
 abbrev pub Stays : {A : Type 0} → List ℕ → (List Event → Result A Ending → List Event → Type 0) → Type 0
-Stays {A} path step = (old : List Event) (result : Result A Ending) (new : List Event) → step old result new → about path new ≡ about path old
+Stays {A} path step = (old : List Event) (result : Result A Ending) (new : List Event) → step old result new → changes_at path new ≡ changes_at path old
 
-same : {old new : List Event} (path : List ℕ) → new ≡ old → about path new ≡ about path old
-same path is = ap (λ (events : List Event). about path events) is
+same : {old new : List Event} (path : List ℕ) → new ≡ old → changes_at path new ≡ changes_at path old
+same path is = ap (λ (events : List Event). changes_at path events) is
 
 pub then-stays : {A B : Type 0} (path : List ℕ) (first : List Event → Result A Ending → List Event → Type 0) (next : A → List Event → Result B Ending → List Event → Type 0)
-    → Stays path first → ((a : A) (old between : List Event) → first old (Ok a) between → (result : Result B Ending) (new : List Event) → next a between result new → about path new ≡ about path between)
+    → Stays path first → ((a : A) (old between : List Event) → first old (Ok a) between → (result : Result B Ending) (new : List Event) → next a between result new → changes_at path new ≡ changes_at path between)
     → Stays path (Then first next)
 then-stays path first next f n old (Ok r) new (inl ends) = absurd ends
 then-stays path first next f n old (Err e) new (inl ends) = f old (Err e) new ends
@@ -70,11 +72,11 @@ prints-stays path bytes old (Err Unreported) new p = absurd p
 prints-stays path bytes old (Err NoReader) new p = same path p
 prints-stays path bytes old (Err Misuse) new p = absurd p
 
-tells-stays : (path : List ℕ) (note : Option ImageNote) (old new : List Event) → TellsOfImage note old new → about path new ≡ about path old
+tells-stays : (path : List ℕ) (note : Option ImageNote) (old new : List Event) → TellsOfImage note old new → changes_at path new ≡ changes_at path old
 tells-stays path None old new p = same path p
 tells-stays path (Some note) old new p = same path p.1
 
-refuses-stays : (path : List ℕ) (why : ArchiveFault) (size : ℕ) (old : List Event) (ending : Ending) (new : List Event) → Refuses why size old ending new → about path new ≡ about path old
+refuses-stays : (path : List ℕ) (why : ArchiveFault) (size : ℕ) (old : List Event) (ending : Ending) (new : List Event) → Refuses why size old ending new → changes_at path new ≡ changes_at path old
 refuses-stays path why size old ending new p = tells-stays path (image_note size why) old new p.1
 
 pub answers-stays : {A : Type 0} (path : List ℕ) (gives : Result A ArchiveFault → Type 0) (size : ℕ) → Stays path (Answers gives size)
@@ -95,7 +97,7 @@ finds-stays path (One layout) body old result new p = same path p.1
 finds-stays path Both body old (Ok image) new p = absurd p
 finds-stays path Both body old (Err ending) new (is, ok, p) = same path p
 
-lines-stay : (path lines : List ℕ) (old new : List Event) → TellsLines lines old new → about path new ≡ about path old
+lines-stay : (path lines : List ℕ) (old new : List Event) → TellsLines lines old new → changes_at path new ≡ changes_at path old
 lines-stay path [] old new p = same path p
 lines-stay path (c ∷ lines) old new p = same path p.1
 
@@ -131,7 +133,7 @@ pub gives-stays : (path image : List ℕ) (piece : Piece) → Stays path (GivesP
 gives-stays path image piece old (Ok bytes) new p = same path p.1
 gives-stays path image piece old (Err ending) new (why, gets, p) = refused why p
   where
-    refused : (why : BlocksFault) → RefusesBlocks why (length image) old ending new → about path new ≡ about path old
+    refused : (why : BlocksFault) → RefusesBlocks why (length image) old ending new → changes_at path new ≡ changes_at path old
     refused (Archive why) r = refuses-stays path why (length image) old ending new r
     refused (NoBlocks has) r = same path r.1
 
@@ -142,9 +144,9 @@ apart laid path true is other = absurd (other (sym ((bytes_eq-Decides laid path)
 apart laid path false is other = is
 
 lays-stays : (path laid bytes : List ℕ) → path ≢ laid → Stays path (LaysFirst laid bytes)
-lays-stays path laid bytes other old (Ok it) new p = p.only.others path (apart laid path (bytes_eq laid path) refl other)
+lays-stays path laid bytes other old (Ok it) new p = of-both path old new (p.only.others path (apart laid path (bytes_eq laid path) refl other)) p.only.keeps_folders
 lays-stays path laid bytes other old (Err ending) new (why, between, is, laid_by, cause, number, told) =
-    unless-keeps (is_want_of_memory why) (reason_of_first why) laid between new told path ∙ laid_by.only.others path (apart laid path (bytes_eq laid path) refl other)
+    unless-keeps (is_want_of_memory why) (reason_of_first why) laid between new told path ∙ of-both path old between (laid_by.only.others path (apart laid path (bytes_eq laid path) refl other)) laid_by.only.keeps_folders
 
 piece-stays : (path folder image : List ℕ) (scan : Scan) (piece : Piece) → path ≢ folder ++ codes "/" ++ piece_name piece → Stays path (WritesPiece folder image scan piece)
 piece-stays path folder image scan piece other =
@@ -167,21 +169,28 @@ each-stays path folder image scan (piece ∷ pieces) none =
     then-stays path (WritesPiece folder image scan piece) (λ it. WritesEach folder image scan pieces) (piece-stays path folder image scan piece none.0)
     (λ it old between done. each-stays path folder image scan pieces none.1 between)
 
-pub folder-stays : (path folder : List ℕ) → Stays path (MakesFolder folder)
-folder-stays path folder old (Ok it) new p = same path p
-folder-stays path folder old (Err ending) new (fault, is, p) = unless-keeps (is_want_of_memory fault) (reason_of_first fault) folder (failed_call MakeFolder folder fault ∷ old) new p path
+-- ## The command, which makes a folder
 
-all-stays : (path folder image : List ℕ) (scan : Scan) → IsOfNone folder path scan.pieces.items → Stays path (WritesAll folder image scan)
-all-stays path folder image scan none =
-    then-stays path (MakesFolder folder) (λ it. WritesEach folder image scan scan.pieces.items) (folder-stays path folder)
-    (λ it old between done. each-stays path folder image scan scan.pieces.items none between)
+pub folder-stays : (path folder : List ℕ) (old : List Event) (result : Result (Unit {0}) Ending) (new : List Event) → MakesFolder folder old result new → about path new ≡ about path old
+folder-stays path folder old (Ok it) new p = ap (λ (events : List Event). about path events) p
+folder-stays path folder old (Err ending) new (fault, is, p) = of-file path (unless-keeps (is_want_of_memory fault) (reason_of_first fault) folder (failed_call MakeFolder folder fault ∷ old) new p path)
+
+all-stays : (path folder image : List ℕ) (scan : Scan) → IsOfNone folder path scan.pieces.items → (old : List Event) (result : Result (Unit {0}) Ending) (new : List Event) → WritesAll folder image scan old result new → about path new ≡ about path old
+all-stays path folder image scan none old (Ok it) new (inl ends) = absurd ends
+all-stays path folder image scan none old (Err ending) new (inl ends) = folder-stays path folder old (Err ending) new ends
+all-stays path folder image scan none old result new (inr it) =
+    of-file path (each-stays path folder image scan scan.pieces.items none it.between result new it.after) ∙ folder-stays path folder old (Ok it.given) it.between it.done
+
+scanned-stays : (path folder image : List ℕ) → ((scan : Scan) → Scans image (Ok scan) → IsOfNone folder path scan.pieces.items)
+    → (old : List Event) (result : Result (Unit {0}) Ending) (new : List Event) → Then (Answers (Scans image) (length image)) (λ scan. WritesAll folder image scan) old result new → about path new ≡ about path old
+scanned-stays path folder image none old (Ok it) new (inl ends) = absurd ends
+scanned-stays path folder image none old (Err ending) new (inl ends) = of-file path (answers-stays path (Scans image) (length image) old (Err ending) new ends)
+scanned-stays path folder image none old result new (inr it) =
+    all-stays path folder image it.given (none it.given it.done.0) it.between result new it.after ∙ of-file path (answers-stays path (Scans image) (length image) old (Ok it.given) it.between it.done)
 
 pub pieces-alone : ChangesPiecesAlone
 pieces-alone folder form old (Ok it) new (inl ends) path none = absurd ends
-pieces-alone folder form old (Err ending) new (inl ends) path none = looks-at-stays path form old (Err ending) new ends
+pieces-alone folder form old (Err ending) new (inl ends) path none = of-file path (looks-at-stays path form old (Err ending) new ends)
 pieces-alone folder form old result new (inr looked) path none =
-    then-stays path (Answers (Scans looked.given.items) (length looked.given.items)) (λ scan. WritesAll folder looked.given.items scan)
-    (answers-stays path (Scans looked.given.items) (length looked.given.items))
-    (λ scan from to scanned. all-stays path folder looked.given.items scan (none looked.given looked.between scan looked.done scanned.0) to)
-    looked.between result new looked.after
-    ∙ looks-at-stays path form old (Ok looked.given) looked.between looked.done
+    scanned-stays path folder looked.given.items (λ scan is. none looked.given looked.between scan looked.done is) looked.between result new looked.after
+    ∙ of-file path (looks-at-stays path form old (Ok looked.given) looked.between looked.done)

@@ -6,7 +6,7 @@ use Rattle.std.proofs.lemmas.Slice.Eq.{bytes_eq-Decides}
 use Rattle.hosts.specs.Event.{Event}
 use Rattle.hosts.specs.Place.{Step, about}
 use Rattle.hosts.specs.Saving.{replacements}
-use Rattle.hosts.specs.Streams.{path_of_name}
+use Rattle.hosts.specs.Streams.{path_of_name, changes_at}
 use Rattle.image_kind.specs.Keeping.{two_readings}
 use Rattle.image_kind.specs.Margins.{body_of, margins_in}
 use Rattle.image_kind.specs.Volumes.{volumes_in}
@@ -22,6 +22,7 @@ use Rattle.image_files.specs.Reading.{FindsOne, Looks, LooksAt}
 use Rattle.image_files.specs.Reasons.{is_want_of_memory, reason_of_first}
 use Rattle.image_files.specs.Saving.{Prints, Reports}
 use Rattle.image_files.specs.Work.{Then, Purely}
+use Rattle.image_files.proofs.KeepLemmas.{of-file}
 use Rattle.image_files.proofs.ReasonLemmas.{unless-keeps}
 use Rattle.volume_salvage.specs.Salvaging.{Salvages, is_complete, rescued_text}
 use Rattle.volume_salvage.specs.Scanning.{Scans, piece_line}
@@ -32,7 +33,7 @@ use Rattle.salvage_commands.specs.ScanningBlocks.{GivesPiece, IsPath, LaysFirst,
 use Rattle.salvage_commands.proofs.PathLemmas.{Stays, answers-stays, finds-stays, folder-stays, gives-stays, judges-by-stays, looks-at-stays, looks-stays, prints-stays, purely-stays}
 
 never : {A : Type 0} (step : List Event → Result A Ending → List Event → Type 0) → ((path : List ℕ) → Stays path step) → NeverReplaces step
-never step f old result new p path = ap (λ (steps : List Step). replacements steps) (f path old result new p)
+never step f old result new p path = ap (λ (steps : List Step). replacements steps) (of-file path (f path old result new p))
 
 then-never : {A B : Type 0} (first : List Event → Result A Ending → List Event → Type 0) (next : A → List Event → Result B Ending → List Event → Type 0)
     → NeverReplaces first → ((a : A) → NeverReplaces (next a)) → NeverReplaces (Then first next)
@@ -51,7 +52,7 @@ first-at made path false old new is first others = ap (λ (steps : List Step). r
 lays-never : (laid bytes : List ℕ) → NeverReplaces (LaysFirst laid bytes)
 lays-never laid bytes old (Ok it) new p path = first-at laid path (bytes_eq laid path) old new refl p.first p.only.others
 lays-never laid bytes old (Err ending) new (why, between, is, laid_by, cause, number, told) path =
-    ap (λ (steps : List Step). replacements steps) (unless-keeps (is_want_of_memory why) (reason_of_first why) laid between new told path)
+    ap (λ (steps : List Step). replacements steps) (of-file path (unless-keeps (is_want_of_memory why) (reason_of_first why) laid between new told path))
     ∙ first-at laid path (bytes_eq laid path) old between refl laid_by.first laid_by.only.others
 
 piece-never : (folder image : List ℕ) (scan : Scan) (piece : Piece) → NeverReplaces (WritesPiece folder image scan piece)
@@ -74,7 +75,7 @@ each-never folder image scan (piece ∷ pieces) =
 
 all-never : (folder image : List ℕ) (scan : Scan) → NeverReplaces (WritesAll folder image scan)
 all-never folder image scan =
-    then-never (MakesFolder folder) (λ it. WritesEach folder image scan scan.pieces.items) (never (MakesFolder folder) (λ path. folder-stays path folder))
+    then-never (MakesFolder folder) (λ it. WritesEach folder image scan scan.pieces.items) (λ old result new p path. ap (λ (steps : List Step). replacements steps) (folder-stays path folder old result new p))
     (λ it. each-never folder image scan scan.pieces.items)
 
 pub pieces-never : (folder : List ℕ) (form : ImageForm) → NeverReplaces (WritesPieces folder form)
@@ -89,11 +90,11 @@ pieces-never folder form =
 makes-never : (name file : List ℕ) → NeverReplaces (MakesFirst name file)
 makes-never name file old (Ok it) new p path = first-at (path_of_name new) path (bytes_eq (path_of_name new) path) old new refl p.first p.only.others
 makes-never name file old (Err ending) new (why, between, is, unmade, told) path =
-    ap (λ (steps : List Step). replacements steps) (unless-keeps (is_want_of_memory why) (reason_of_first why) name between new told path)
+    ap (λ (steps : List Step). replacements steps) (of-file path (unless-keeps (is_want_of_memory why) (reason_of_first why) name between new told path))
     ∙ first-at (path_of_name between) path (bytes_eq (path_of_name between) path) old between refl unmade.first unmade.only.others
 
-same : {old new : List Event} (path : List ℕ) → new ≡ old → about path new ≡ about path old
-same path is = ap (λ (events : List Event). about path events) is
+same : {old new : List Event} (path : List ℕ) → new ≡ old → changes_at path new ≡ changes_at path old
+same path is = ap (λ (events : List Event). changes_at path events) is
 
 reports-stay : (path lines : List ℕ) → Stays path (Reports lines)
 reports-stay path lines old (Ok it) new p = same path p
@@ -122,7 +123,7 @@ finishes-stay path false lines old (Err Unreported) new p = reports-stay path li
 finishes-stay path false lines old (Err NoReader) new p = absurd p
 finishes-stay path false lines old (Err Misuse) new p = absurd p
 
-margin-stays : (path : List ℕ) (is ok : Bool) (old new : List Event) → new ≡ with_margin_note is ok old → about path new ≡ about path old
+margin-stays : (path : List ℕ) (is ok : Bool) (old new : List Event) → new ≡ with_margin_note is ok old → changes_at path new ≡ changes_at path old
 margin-stays path true ok old new p = same path p
 margin-stays path false ok old new p = same path p
 

@@ -5,7 +5,7 @@ use Rattle.hosts.specs.Event.{Event}
 use Rattle.disk_layouts.specs.Files.{Disk}
 use Rattle.hosts.specs.Place.{Place, Leaves, Allows, Just, Remainder, Step as HostStep, about, ever}
 use Rattle.hosts.specs.Saving.{IsOldOrNew}
-use Rattle.hosts.specs.Streams.{may_replace}
+use Rattle.hosts.specs.Streams.{may_replace, changes_at}
 use Rattle.hosts.specs.declared.faults.Durability.{Durability}
 use Rattle.hosts.specs.declared.faults.PrintFault.{PrintFault}
 use Rattle.image_files.specs.declared.reading.ImagePlace.{ImagePlace}
@@ -21,7 +21,7 @@ use Rattle.script8.specs.declared.replies.Reply.{Reply}
 use Rattle.system_session.specs.Session.{SessionView}
 use Rattle.image_files.specs.Answers.{Answers, Refuses}
 use Rattle.image_files.specs.Laws.{KeepsFiles}
-use Rattle.image_files.proofs.KeepLemmas.{purely-keeps, same, then-keeps}
+use Rattle.image_files.proofs.KeepLemmas.{of-file, purely-keeps, same, then-keeps}
 use Rattle.image_kind.specs.Margins.{body_by, margins_by}
 use Rattle.image_kind.specs.Parts.{Parts}
 use Rattle.image_kind.specs.declared.kinds.ImageKind.{ImageKind}
@@ -44,7 +44,7 @@ finds-keeps Both body old (Err ending) new (is, ok, p) path = same path p
 
 -- ## A run that saves nothing
 
-steps-keep : (is_typed : Bool) (start : Image) (steps : List Step) (old new : List Event) (path : List ℕ) → AreDone is_typed start steps old new → AreUnsaved steps → about path new ≡ about path old
+steps-keep : (is_typed : Bool) (start : Image) (steps : List Step) (old new : List Event) (path : List ℕ) → AreDone is_typed start steps old new → AreUnsaved steps → changes_at path new ≡ changes_at path old
 steps-keep is_typed start [] old new path done none = same path done
 steps-keep is_typed start (Saves image durability ∷ earlier) old new path done none = absurd none
 steps-keep is_typed start (Fails ending ∷ earlier) old new path done none = absurd none
@@ -67,7 +67,7 @@ judges-keeps name (Some two) old (Err ending) new (inr (is, p)) path = same path
 -- what the crates below know of their steps is handed in
 module _
     (looks-keeps : (name shown : List ℕ) → KeepsFiles (Looks name shown))
-    (refuses-keeps : (why : ArchiveFault) (size : ℕ) (old : List Event) (ending : Ending) (new : List Event) → Refuses why size old ending new → (path : List ℕ) → about path new ≡ about path old)
+    (refuses-keeps : (why : ArchiveFault) (size : ℕ) (old : List Event) (ending : Ending) (new : List Event) → Refuses why size old ending new → (path : List ℕ) → changes_at path new ≡ changes_at path old)
   where
     answers-keeps : {A : Type 0} (gives : Result A ArchiveFault → Type 0) (size : ℕ) → KeepsFiles (Answers gives size)
     answers-keeps gives size old (Ok it) new p path = same path p.1
@@ -161,8 +161,8 @@ later-leaves is_typed start step steps old place found one (inl left) = inl left
 later-leaves is_typed start step steps old place found one (inr (inl it)) = inr (inl (one it))
 later-leaves is_typed start step steps old place found one (inr (inr it)) = inr (inr (in-place-later is_typed start step steps old it))
 
-still : (path : List ℕ) (mid new : List Event) (place : Place) (found : Option (List ℕ)) → about path new ≡ about path mid → Leaves (ever place (about path new)) found → Leaves (ever place (about path mid)) found
-still path mid new place found is left = subst (λ (s : List HostStep). Leaves (ever place s) found) is left
+still : (path : List ℕ) (mid new : List Event) (place : Place) (found : Option (List ℕ)) → changes_at path new ≡ changes_at path mid → Leaves (ever place (about path new)) found → Leaves (ever place (about path mid)) found
+still path mid new place found is left = subst (λ (s : List HostStep). Leaves (ever place s) found) (of-file path is) left
 
 saves-leaves : (is_typed : Bool) (start image : Image) (durability : Durability) (earlier : List Step) (old mid new : List Event) (place : Place) (found : Option (List ℕ)) → AreDone is_typed start earlier old mid → save_ending earlier ≡ None
     → GetsImage (has_saved earlier) (has_unsynced earlier) (last_image start earlier) image durability mid new

@@ -2,9 +2,9 @@
 use Rattle.std.proofs.Common.{◌≡◌, ◌⊎◌, ◌∙◌, ◌<◌, ℕ, Bool, true, false, List, Result, Ok, Err, ap, inl, inr, refl}
 use Rattle.hosts.specs.Event.{Event}
 use Rattle.hosts.specs.Place.{Step, about}
-use Rattle.hosts.specs.Saving.{AnyMomentOf, IsPlaceNoted, IsUnwritten, StaysAsItWas}
+use Rattle.hosts.specs.Saving.{AnyMomentOf, IsCutShort, IsOrderCut, IsPlaceNoted, IsUnwritten, StaysAsItWas}
 use Rattle.hosts.specs.Faults.{fault_number}
-use Rattle.hosts.specs.Streams.{output, errors, read, failures, last_fault, may_replace}
+use Rattle.hosts.specs.Streams.{output, errors, read, folders, failures, last_fault, may_replace}
 use Rattle.hosts.specs.declared.faults.HostFault.{HostFault}
 use Rattle.hosts.specs.declared.faults.Durability.{Durability}
 use Rattle.hosts.specs.declared.faults.Durability.TheVariants.{Certain, Unknown}
@@ -15,7 +15,7 @@ use Rattle.outcome.specs.declared.endings.Ending.{Ending}
 use Rattle.outcome.specs.declared.endings.Ending.TheVariants.{NotWritten}
 use Rattle.image_files.specs.Reasons.{TellsReason}
 use Rattle.outcome.specs.declared.reasons.Reason.TheVariants.{Fault, NoRoom}
-use Rattle.image_files.specs.Saving.{IsPlaceTold, TouchesOnly, Writes}
+use Rattle.image_files.specs.Saving.{IsPlaceTold, TouchesOnly, Writes, directory_size}
 use Rattle.image_files.specs.declared.images.Image.{Image}
 use Rattle.script_commands.specs.Steps.{GetsImage, IsBodyOf, IsSyncToldOnce, once_note}
 use Rattle.script_commands.specs.RunSteps.{IsWritten, NotesSync, WritesAround, WritesImage}
@@ -23,15 +23,16 @@ use Rattle.script_commands.specs.RunSteps.{IsWritten, NotesSync, WritesAround, W
 -- what a note on the folder leaves as it was
 record IsNoted (is_told : Bool) (durability : Durability) (old new : List Event) : Type 0 where
   files : (path : List ℕ) → about path new ≡ about path old
+  keeps_folders : folders new ≡ folders old
   answers : may_replace new ≡ may_replace old
   prints : output new ≡ output old
   reads : read new ≡ read old
   note : IsSyncToldOnce is_told durability (errors old) (errors new)
 
 noted : (is_told : Bool) (durability : Durability) (old new : List Event) → NotesSync is_told durability old new → IsNoted is_told durability old new
-noted true durability old new is = record { files = λ path. ap (λ (h : List Event). about path h) is; answers = ap may_replace is; prints = ap output is; reads = ap read is; note = ap errors is }
-noted false Certain old new is = record { files = λ path. ap (λ (h : List Event). about path h) is; answers = ap may_replace is; prints = ap output is; reads = ap read is; note = ap errors is }
-noted false Unknown old new (ok, is) = record { files = λ path. ap (λ (h : List Event). about path h) is; answers = ap may_replace is; prints = ap output is; reads = ap read is; note = (ok, ap errors is) }
+noted true durability old new is = record { files = λ path. ap (λ (h : List Event). about path h) is; answers = ap may_replace is; prints = ap output is; reads = ap read is; keeps_folders = ap folders is; note = ap errors is }
+noted false Certain old new is = record { files = λ path. ap (λ (h : List Event). about path h) is; answers = ap may_replace is; prints = ap output is; reads = ap read is; keeps_folders = ap folders is; note = ap errors is }
+noted false Unknown old new (ok, is) = record { files = λ path. ap (λ (h : List Event). about path h) is; answers = ap may_replace is; prints = ap output is; reads = ap read is; keeps_folders = ap folders is; note = (ok, ap errors is) }
 
 pub got : (is_place is_sync : Bool) (before img after : Image) (bytes : List ℕ) (durability : Durability) (old mid new : List Event) → IsWritten is_place before bytes durability img old mid → NotesSync is_sync durability mid new
     → after.place ≡ img.place → after.disk ≡ img.disk → after.parts ≡ img.parts → after.judgment ≡ img.judgment → after.bytes.items ≡ bytes → GetsImage is_place is_sync before after durability old new
@@ -44,10 +45,11 @@ got is_place is_sync before img after bytes durability old mid new w notes place
   kind = w.kind;
   kept = rw (n.answers, n.files path) w.wrote.kept;
   moments = rw (n.answers, n.files path) w.wrote.moments;
+  order = rw (n.answers, n.files path) w.wrote.order;
   noted = errors mid;
   place_note = rw n.answers w.wrote.note;
   sync_note = n.note;
-  only = record { others = λ other apart. n.files other ∙ w.wrote.only.others other apart; beside = rw (n.files path) w.wrote.only.beside; prints = n.prints ∙ w.wrote.only.prints; reads = n.reads ∙ w.wrote.only.reads };
+  only = record { others = λ other apart. n.files other ∙ w.wrote.only.others other apart; beside = rw (n.files path) w.wrote.only.beside; prints = n.prints ∙ w.wrote.only.prints; reads = n.reads ∙ w.wrote.only.reads; keeps_folders = n.keeps_folders ∙ w.wrote.only.keeps_folders };
 } where
   path : List ℕ
   path = before.place.path.bytes.items
@@ -72,12 +74,16 @@ silent : (is : Bool) (a b : List Step) → IsUnwritten AsItWas is a b → (note 
 silent true a b it note old new noted = noted
 silent false a b it note old new noted = absurd it
 
+cut_short : (is : Bool) (file : List ℕ) (old new : List Step) → IsUnwritten InPart is old new → IsOrderCut is directory_size file old new → IsCutShort directory_size file old new
+cut_short true file old new it order = absurd it
+cut_short false file old new it order = order
+
 -- a file that could not be written, which was printed
 pub left_so : (is_told : Bool) (path name file : List ℕ) (left : Unwritten) (why : HostFault) (old between new : List Event) → IsUnwritten left (may_replace between) (about path old) (about path between)
-    → AnyMomentOf (may_replace between) file (about path old) (about path between) → failures old < failures between → fault_number why ≡ last_fault between
+    → IsOrderCut (may_replace between) directory_size file (about path old) (about path between) → AnyMomentOf (may_replace between) file (about path old) (about path between) → failures old < failures between → fault_number why ≡ last_fault between
     → IsPlaceNoted (may_replace between) (once_note is_told) (errors old) (errors between) → TouchesOnly path old between → TellsReason (Fault why) name between new
     → Writes content.Image path name file old (Err (NotWritten content.Image left)) new
-left_so is_told path name file AsItWas why old between new saves moments cause number note only told = (
+left_so is_told path name file AsItWas why old between new saves order moments cause number note only told = (
   refl,
   why,
   between,
@@ -91,12 +97,13 @@ left_so is_told path name file AsItWas why old between new saves moments cause n
   },
   told,
 )
-left_so is_told path name file InPart why old between new saves moments cause number note only told = (
+left_so is_told path name file InPart why old between new saves order moments cause number note only told = (
   refl,
   why,
   between,
   record {
     in_place = in_place (may_replace between) (about path old) (about path between) saves;
+    order = cut_short (may_replace between) file (about path old) (about path between) saves order;
     cause = cause;
     why = number;
     place = place_told (may_replace between) is_told (errors old) (errors between) note;

@@ -1,9 +1,9 @@
 -- What a run of a script has done so far. No contract of a public function cites these.
-use Rattle.std.specs.Prelude.{Option, ◌≡◌, ◌⊎◌, ℕ, List, [], ◌∷◌, ◌++◌, Bool, true, false, None, Some, Result, Ok, Err, codes}
+use Rattle.std.specs.Prelude.{Option, ◌≡◌, ◌⊎◌, ℕ, List, [], ◌∷◌, ◌++◌, Bool, true, false, None, Some, Result, Ok, Err}
 use Rattle.hosts.specs.Event.{Event, print_call, tell_call}
 use Rattle.hosts.specs.Faults.{pipe_number}
 use Rattle.hosts.specs.Place.{about}
-use Rattle.hosts.specs.Saving.{KeepsFile, AnyMomentOf, IsPlaceNoted}
+use Rattle.hosts.specs.Saving.{KeepsFile, AnyMomentOf, IsOrdered, IsPlaceNoted}
 use Rattle.hosts.specs.Streams.{errors, may_replace, output_text}
 use Rattle.hosts.specs.declared.faults.Durability.{Durability}
 use Rattle.hosts.specs.declared.faults.Durability.TheVariants.{Certain, Unknown}
@@ -24,7 +24,7 @@ use Rattle.script8.specs.Replies.{answer_lines}
 use Rattle.system_session.specs.ShownAnswers.{ShownAnswer}
 use Rattle.volume_image.specs.Image.{IsImageOf}
 use Rattle.image_files.specs.Reasons.{TellsReason}
-use Rattle.image_files.specs.Saving.{TouchesOnly}
+use Rattle.image_files.specs.Saving.{TouchesOnly, directory_size}
 use Rattle.outcome.specs.declared.reasons.Reason.TheVariants.{NoRoom}
 use Rattle.image_files.specs.declared.images.Image.{Image}
 use Rattle.script_commands.specs.Steps.{Step, AreDone, AreKept, AreReplies, AreUnsaved, GetsImage, IsFileAround, IsFileOf, IsUnwritten, StaysUnsaved, changes, has_cut, has_refusal, has_saved, has_unsynced, is_refusal, is_unknown, last_image, or_else, printed_text, reply_text, print_fault, save_ending, once_note}
@@ -51,6 +51,7 @@ pub record HasDone (start : Image) (old : List Event) (shown : List ShownAnswer)
 pub record IsFileWritten (is_told : Bool) (path file : List ℕ) (durability : Durability) (old new : List Event) : Type 0 where
   pub kept : KeepsFile (may_replace new) durability file (about path old) (about path new)
   pub moments : AnyMomentOf (may_replace new) file (about path old) (about path new)
+  pub order : IsOrdered (may_replace new) directory_size file (about path old) (about path new)
   pub note : IsPlaceNoted (may_replace new) (once_note is_told) (errors old) (errors new)
   pub only : TouchesOnly path old new
 

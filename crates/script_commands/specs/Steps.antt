@@ -3,7 +3,7 @@ use Rattle.std.specs.Prelude.{◌≡◌, ◌⊎◌, ℕ, List, [], ◌∷◌, �
 use Rattle.hosts.specs.Event.{Event, print_call, tell_call}
 use Rattle.hosts.specs.Faults.{pipe_number}
 use Rattle.hosts.specs.Place.{about}
-use Rattle.hosts.specs.Saving.{KeepsFile, AnyMomentOf, IsPlaceNoted}
+use Rattle.hosts.specs.Saving.{KeepsFile, AnyMomentOf, IsOrdered, IsPlaceNoted}
 use Rattle.hosts.specs.Streams.{errors, may_replace}
 use Rattle.hosts.specs.declared.faults.Durability.{Durability}
 use Rattle.hosts.specs.declared.faults.Durability.TheVariants.{Certain, Unknown}
@@ -32,7 +32,7 @@ use Rattle.volume_image.specs.Image.{IsImageOf}
 use Rattle.image_files.specs.Work.{Lacks}
 use Rattle.image_files.specs.Reasons.{TellsReason}
 use Rattle.image_files.specs.Judging.{RefusesKind}
-use Rattle.image_files.specs.Saving.{IsSyncTold, TouchesOnly, Writes}
+use Rattle.image_files.specs.Saving.{IsSyncTold, TouchesOnly, Writes, directory_size}
 use Rattle.outcome.specs.declared.reasons.Reason.{Reason}
 use Rattle.image_files.specs.declared.images.Image.{Image}
 
@@ -213,6 +213,7 @@ pub record GetsImage (has_saved has_unsynced : Bool) (before after : Image) (dur
   pub kind : keeps_kind before.judgment file ≡ true
   pub kept : KeepsFile (may_replace new) durability file (about before.place.path.bytes.items old) (about before.place.path.bytes.items new)
   pub moments : AnyMomentOf (may_replace new) file (about before.place.path.bytes.items old) (about before.place.path.bytes.items new)
+  pub order : IsOrdered (may_replace new) directory_size file (about before.place.path.bytes.items old) (about before.place.path.bytes.items new)
   pub noted : List (Bool × List ℕ)
   pub place_note : IsPlaceNoted (may_replace new) (once_note has_saved) (errors old) noted
   pub sync_note : IsSyncToldOnce has_unsynced durability noted (errors new)

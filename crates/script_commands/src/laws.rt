@@ -19,7 +19,7 @@ ghost use Rattle.script_commands.specs.Steps.{Step, Refuses, Replies, AreDone, A
 use byte_reader::ByteReader;
 use image_files::laws::kept_files;
 
-/// Where the image is never to be saved, a run changes no file of the host, in whichever way it ends.
+/// Where the image is never to be saved, a run changes no file of the host and makes no folder, in whichever way it ends.
 pub fn unchanged_files<I: ByteReader>()
     ensures { (named : ImageForm) (form : RunForm) (is_typed : Bool) (before after : I) → form.saving ≡ Never
         → KeepsFiles (RunsScript named form is_typed (reading I.remaining I.has_failed before after)) }

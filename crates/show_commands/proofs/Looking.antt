@@ -9,7 +9,7 @@ use Rattle.image_kind.specs.declared.margins.Margins.{Margins}
 use Rattle.image_kind.specs.declared.volumes.Volumes.{Volumes}
 use Rattle.image_kind.specs.declared.volumes.Volumes.TheVariants.{One, Both}
 use Rattle.hosts.specs.Event.{Event, leftovers_call}
-use Rattle.hosts.specs.Place.{about}
+use Rattle.hosts.specs.Streams.{changes_at}
 use Rattle.outcome.specs.declared.endings.Ending.{Ending}
 use Rattle.program_reports.specs.Program.{program_line}
 use Rattle.program_reports.specs.declared.programs.ProgramLine.TheVariants as line
@@ -44,9 +44,9 @@ prints-named-never file report =
     (λ lines. then-keeps (After report.is_sound (Prints lines.items)) (λ it. Purely (λ (result : Result Bool Ending). result ≡ Ok report.is_sound)) (after-keeps report.is_sound (Prints lines.items) (prints-keeps lines.items)) (λ it. purely-keeps (λ (result : Result Bool Ending). result ≡ Ok report.is_sound)))
 
 at-never : (kind : ReportKind) (layout : Option Layout) (body : List ℕ) → KeepsFiles (ReportsAt kind layout body)
-at-never kind layout body old result new (inl (image, found, inl (report, reports, is, same))) path = ap (λ (events : List Event). about path events) same
+at-never kind layout body old result new (inl (image, found, inl (report, reports, is, same))) path = ap (λ (events : List Event). changes_at path events) same
 at-never kind layout body old result new (inl (image, found, inr (fault, ending, reports, refuses, told))) path = refuses-never fault (length image.items) old ending new refuses path
-at-never kind layout body old result new (inr (ending, found, told, same)) path = ap (λ (events : List Event). about path events) same
+at-never kind layout body old result new (inr (ending, found, told, same)) path = ap (λ (events : List Event). changes_at path events) same
 
 reports-volume-never : (kind : ReportKind) (name : List ℕ) (layout : Option Layout) (body : List ℕ) → KeepsFiles (ReportsVolume kind name layout body)
 reports-volume-never kind name layout body = then-keeps (ReportsAt kind layout body) (PrintsNamed name) (at-never kind layout body) (prints-named-never name)
@@ -74,9 +74,9 @@ file-never kind file (One layout) body = alone-never kind layout body
 file-never kind file Both body = then-keeps (ReportsBoth kind file body) (λ is_sound. Purely (EndsSound is_sound)) (both-never kind file body) (λ is_sound. purely-keeps (EndsSound is_sound))
 
 note-never : (is_noted : Bool) (name : List ℕ) (margins : Margins) → KeepsFiles (TellsMarginsIf is_noted name margins)
-note-never false name margins old result new p path = ap (λ (events : List Event). about path events) p.1
-note-never true name margins old (Ok it) new p path = ap (λ (events : List Event). about path events) p.1
-note-never true name margins old (Err ending) new p path = ap (λ (events : List Event). about path events) p.1
+note-never false name margins old result new p path = ap (λ (events : List Event). changes_at path events) p.1
+note-never true name margins old (Ok it) new p path = ap (λ (events : List Event). changes_at path events) p.1
+note-never true name margins old (Err ending) new p path = ap (λ (events : List Event). changes_at path events) p.1
 
 margins-never : (kind : ReportKind) (name : List ℕ) (margins : Margins) → KeepsFiles (TellsMargins kind name margins)
 margins-never kind name margins = note-never (is_check kind && has_margins margins) name margins
@@ -132,13 +132,13 @@ files-never form (file ∷ []) = one-never (kind_of_check form.is_all) (reading_
 files-never form (file ∷ other ∷ files) = several-never form (file ∷ other ∷ files)
 
 dropped-never : (is_none : Bool) (name : List ℕ) (count : ℕ) → KeepsFiles (TellsDropped is_none name count)
-dropped-never true name count old result new p path = ap (λ (events : List Event). about path events) p.1
-dropped-never false name count old (Ok it) new p path = ap (λ (events : List Event). about path events) p.1
-dropped-never false name count old (Err ending) new p path = ap (λ (events : List Event). about path events) p.1
+dropped-never true name count old result new p path = ap (λ (events : List Event). changes_at path events) p.1
+dropped-never false name count old (Ok it) new p path = ap (λ (events : List Event). changes_at path events) p.1
+dropped-never false name count old (Err ending) new p path = ap (λ (events : List Event). changes_at path events) p.1
 
 beside-never : (name : List ℕ) → KeepsFiles (DropsBeside name)
 beside-never name old result new (inl p) path = dropped-never (nat_eq p.0 0) name p.0 (leftovers_call name p.0 ∷ old) result new p.1 path
-beside-never name old result new (inr p) path = ap (λ (events : List Event). about path events) p.2
+beside-never name old result new (inr p) path = ap (λ (events : List Event). changes_at path events) p.2
 
 drops-never : (form : CheckForm) (files : List (List ℕ)) → KeepsFiles (DropsEach form files)
 drops-never form [] = purely-keeps (λ (result : Result (Unit {0}) Ending). result ≡ Ok tt)

@@ -11,7 +11,7 @@ ghost use Rattle.show_commands.specs.Laws.{AreSound};
 ghost use Rattle.show_commands.specs.Volumes.{ReportsOne};
 ghost use Rattle.show_commands.specs.declared.reports.ReportKind.{ReportKind as Kind};
 
-/// A command that reports on images changes no file, in whichever way it ends.
+/// A command that reports on images changes no file and makes no folder, in whichever way it ends.
 pub fn shown_images()
     ensures reports { (kind : Kind) (reading : Reading) (file : List ℕ) → KeepsFiles (ReportsOne kind reading file) }
     ensures checks { (form : Check) → KeepsFiles (ChecksImages form) }

@@ -3,7 +3,7 @@ use Rattle.std.proofs.Common.{◌≡◌, ℕ, Bool, true, false, option_map, Opt
 use Rattle.std.specs.Global.{Vec, Global}
 use Rattle.std.specs.Prelude.{String}
 use Rattle.hosts.specs.Event.{Event}
-use Rattle.hosts.specs.Place.{about}
+use Rattle.hosts.specs.Streams.{changes_at}
 use Rattle.archive_files.specs.declared.forms.GetForm.TheVariants.{Frames}
 use Rattle.outcome.specs.Hints.{kind_note}
 use Rattle.outcome.specs.declared.endings.Ending.{Ending}
@@ -32,21 +32,21 @@ use Rattle.tape_commands.specs.Rims.{GetsMember, GivesRim, ReadsFrames, WritesRi
 use Rattle.tape_commands.specs.Sources.{GivesSource, ReadsNames, WritesSource, starts_or}
 use Rattle.tape_commands.specs.Tapes.{GivesLines, ListsTape}
 
-tells-keeps : (path : List ℕ) (note : Option PlainNote) (old new : List Event) → Tells note old new → about path new ≡ about path old
+tells-keeps : (path : List ℕ) (note : Option PlainNote) (old new : List Event) → Tells note old new → changes_at path new ≡ changes_at path old
 tells-keeps path None old new p = same path p
 tells-keeps path (Some note) old new p = same path p.1
 
 -- ## What is refused
 
-tape-refused : (path frames : List ℕ) (why : Ending) (old : List Event) (ending : Ending) (new : List Event) → RefusesTape frames why old ending new → about path new ≡ about path old
+tape-refused : (path frames : List ℕ) (why : Ending) (old : List Event) (ending : Ending) (new : List Event) → RefusesTape frames why old ending new → changes_at path new ≡ changes_at path old
 tape-refused path frames why old ending new (inl (kind, is, ends, p)) = tells-keeps path (kind_note kind) old new p
 tape-refused path frames why old ending new (inr p) = same path p.1
 
-refused-if : (is : Bool) (path frames : List ℕ) (why : Ending) (old : List Event) (ending : Ending) (new : List Event) → kinds.RefusesIf is frames why old ending new → about path new ≡ about path old
+refused-if : (is : Bool) (path frames : List ℕ) (why : Ending) (old : List Event) (ending : Ending) (new : List Event) → kinds.RefusesIf is frames why old ending new → changes_at path new ≡ changes_at path old
 refused-if true path frames why old ending new p = tape-refused path frames why old ending new p
 refused-if false path frames why old ending new p = same path p.1
 
-pub frames-refused : (path frames : List ℕ) (why : Ending) (old : List Event) (ending : Ending) (new : List Event) → RefusesFrames frames why old ending new → about path new ≡ about path old
+pub frames-refused : (path frames : List ℕ) (why : Ending) (old : List Event) (ending : Ending) (new : List Event) → RefusesFrames frames why old ending new → changes_at path new ≡ changes_at path old
 frames-refused path frames why old ending new p = refused-if (is_no_tape why) path frames why old ending new p
 
 -- what image_files knows of its steps is handed in
@@ -55,7 +55,7 @@ module _
     (looks-at-keeps : (form : ImageForm) → KeepsFiles (LooksAt form))
     (input-keeps : KeepsFiles TakesInput)
     (prints-keeps : (bytes : List ℕ) → KeepsFiles (Prints bytes))
-    (refuses-keeps : (why : ArchiveFault) (size : ℕ) (old : List Event) (ending : Ending) (new : List Event) → Refuses why size old ending new → (path : List ℕ) → about path new ≡ about path old)
+    (refuses-keeps : (why : ArchiveFault) (size : ℕ) (old : List Event) (ending : Ending) (new : List Event) → Refuses why size old ending new → (path : List ℕ) → changes_at path new ≡ changes_at path old)
   where
     answers-keeps : {A : Type 0} (gives : Result A ArchiveFault → Type 0) (size : ℕ) → KeepsFiles (Answers gives size)
     answers-keeps gives size old (Ok it) new p path = same path p.1
@@ -71,7 +71,7 @@ module _
         (answers-keeps (Gets image wanted Frames) (length image)) (λ frames. purely-keeps (IsCoreProgram frames.items))
 
     member-refused : (is : Bool) (path image : List ℕ) (wanted : Target) (why : ArchiveFault) (old : List Event) (ending : Ending) (new : List Event) → RefusesIf is image wanted why old ending new
-        → about path new ≡ about path old
+        → changes_at path new ≡ changes_at path old
     member-refused true path image wanted why old ending new (inl (frames, gets, p)) = tape-refused path frames.items _ old ending new p
     member-refused true path image wanted why old ending new (inr p) = answers-keeps (Gets image wanted Frames) (length image) old (Err ending) new p path
     member-refused false path image wanted why old ending new p = refuses-keeps why (length image) old ending new p path

@@ -1,5 +1,5 @@
-use Rattle.get_commands.proofs.GettingMany.{folder-alone, none-replaced}
+use Rattle.get_commands.proofs.GettingMany.{folder-alone, none-replaced, one-folder}
 use Rattle.get_commands.proofs.laws.gotten_files.Goals as goal
 
 pub returns : goal.returns
-returns c = record { folder = folder-alone; older = none-replaced }
+returns c = record { folder = folder-alone; made = one-folder; older = none-replaced }

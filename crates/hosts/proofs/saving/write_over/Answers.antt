@@ -1,7 +1,7 @@
-use Rattle.std.proofs.Common.{◌≡◌, ◌∷◌, ◌++◌, length, sym, rules}
-use Rattle.std.proofs.lemmas.List.{take_all}
+use Rattle.std.proofs.Common.{◌≡◌, ◌∷◌, ◌++◌, length, inr, ◌∙◌, rules}
 use Rattle.hosts.specs.Place.{about}
-use Rattle.hosts.proofs.Over.{over_step, finish_step, written_both, written_head, both_parts}
+use Rattle.hosts.specs.Saving.{IsCutShort, over_step, writes_over}
+use Rattle.hosts.proofs.Over.{finish_step, head_alone, written_both, written_head, both_parts}
 use Rattle.hosts.proofs.saving.write_over.Goals as goal
 
 pub returns-clause-over : goal.returns-clause-over
@@ -15,12 +15,22 @@ returns-clause-over g c =
     let steps : about path (g.H.Host.history c.finish_over-2.new.self) ≡ finish_step (length bytes) ∷ over_step 0 head ∷ over_step (length head) rest ∷ old = search rules in
     rw steps (written_both bytes head rest old parts)
 
-pub returns-then-bytes-first-clause-head : goal.returns-then-bytes-first-clause-head
-returns-then-bytes-first-clause-head g c =
+pub returns-then-bytes-first-clause-head_last : goal.returns-then-bytes-first-clause-head_last
+returns-then-bytes-first-clause-head_last g c =
     let path = c.args.path.now in
     let bytes = c.args.bytes.now in
-    let steps : about path (g.H.Host.history c.finish_over.new.self) ≡ finish_step (length bytes) ∷ over_step 0 bytes ∷ about path (g.H.Host.history c.args.host.now) = search rules in
-    rw steps (sym (take_all c.args.first bytes c.if-bytes-first.true))
+    let old = about path (g.H.Host.history c.args.host.now) in
+    let steps : about path (g.H.Host.history c.finish_over.new.self) ≡ finish_step (length bytes) ∷ over_step 0 bytes ∷ old = search rules in
+    rw steps (head_alone c.args.first bytes (writes_over old) c.if-bytes-first.true)
+
+pub returns-in_err-finish_over-clause-cut_short : goal.returns-in_err-finish_over-clause-cut_short
+returns-in_err-finish_over-clause-cut_short g c =
+    let path = c.args.path.now in
+    let bytes = c.args.bytes.now in
+    let old = about path (g.H.Host.history c.args.host.now) in
+    let writes : writes_over (about path (g.H.Host.history c.finish_over.new.self)) ≡ over_step 0 bytes ∷ writes_over old = search rules in
+    let cut : IsCutShort c.args.first bytes old (about path (g.H.Host.history c.finish_over.new.self)) = inr (inr (writes ∙ head_alone c.args.first bytes (writes_over old) c.if-bytes-first.true)) in
+    search rules
 
 pub returns-then-bytes-first-clause-over : goal.returns-then-bytes-first-clause-over
 returns-then-bytes-first-clause-over g c =
