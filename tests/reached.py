@@ -18,6 +18,7 @@ STEPS = {
 }
 # Crates that no command calls yet, so that their laws say nothing of what the program does.
 LIBRARIES = {
+    "debug_lines": "no command reads a debugger's lines yet",
     "history8": "no command goes back in a machine's history yet",
     "pointer_flow": "no command follows pointers yet",
     "pointer_notes": "no command follows pointers yet",

@@ -1,0 +1,14 @@
+pub mod Answers
+pub mod BreakSteps
+pub mod Breaks
+pub mod Cells
+pub mod Columns
+pub mod CompareSteps
+pub mod Grammar
+pub mod Laws
+pub mod Lines
+pub mod Numbers
+pub mod Operands
+pub mod Parts
+pub mod Verbs
+pub mod Words
