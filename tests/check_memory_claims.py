@@ -96,7 +96,7 @@ PLACES: dict[str, dict[str, dict[str, str]]] = {
             "let mut flags = Vec::with_capacity(alloc, CORE)?;": "one for each cell of core",
         },
     },
-    "run_commands/src/devices8e.rt": {
+    "drive_files/src/devices.rt": {
         "paper_end": {
             "Err(Ending::Fault(SessionFault::Memory))": "a paper that isn't whole lacks what had no room on it, and the run's end says so",
         },

@@ -2,8 +2,8 @@
 """compare_machine8e.py [--program FILE] [--runs N] [--seed S]: makes N random programs of an 8/E with disks, a reader, a punch, a line printer and a
 clock, 300 where nothing is said. It traces each with the program and in the plain model. The lines of their steps must be the same but for the spelled
 instructions, and so must be what punch, line printer and disks have at the end. A third of them it also runs at the Teletype, where steps are made several
-at once: what they print, their last line and their disks must be the model's. The same number is the same programs each time. The last line is
-'N passed, M failed'.
+at once: what they print, their last line, their papers and their disks must be the model's. The same number is the same programs each time. The last
+line is 'N passed, M failed'.
 """
 import argparse
 import copy
@@ -66,16 +66,13 @@ class Case:
         """The options of the disks."""
         return [word for number, it in enumerate(self.images) if it is not None for word in (f"--rk{number}", f"D{number}")]
 
-    def remove_devices(self) -> None:
-        """Leaves what a machine has at the Teletype, which is no paper tape, no line printer and no clock."""
-        self.frames, self.period, self.has_paper = [], None, False
-
-    def options(self) -> list[str]:
+    def options(self, steps: int) -> list[str]:
+        """The options of a run of so many steps at most."""
         disks = self.disks()
         paper = ["--printer", "PRINTER"] if self.has_paper else []
         clock = ["--clock", str(self.period)] if self.period else []
         times = ["--disk-time", str(self.times[0]), "--seek-time", str(self.times[1])]
-        return ["--cpu", "8e", "--start", "200", "--steps", str(STEPS), "--reader", "READER", "--punch", "PUNCH", *paper, *clock, *disks, *times]
+        return ["--cpu", "8e", "--start", "200", "--steps", str(steps), "--reader", "READER", "--punch", "PUNCH", *paper, *clock, *disks, *times]
 
     def wanted_disks(self, machine: FullMachine8e) -> dict[str, bytes]:
         """What the files of the disks hold after a run."""
@@ -137,7 +134,7 @@ def compared(program: str, seed: int) -> str:
     case = Case(Random(seed))
     with tempfile.TemporaryDirectory(prefix="pdp8-machine8e-") as folder:
         lay(folder, case.files())
-        done = subprocess.run([program, "trace", "TAPE", *case.options()], cwd=folder, stdin=subprocess.DEVNULL, capture_output=True, timeout=patience(120))
+        done = subprocess.run([program, "trace", "TAPE", *case.options(STEPS)], cwd=folder, stdin=subprocess.DEVNULL, capture_output=True, timeout=patience(120))
         got = [plain(it) for it in done.stdout.decode("latin1").splitlines()]
         if done.returncode or done.stderr or not got or not got[-1].startswith("STEPS "):
             return f"seed {seed}: the status is {done.returncode}, and standard error has {done.stderr[:200]!r}"
@@ -159,7 +156,6 @@ def last_line(machine: FullMachine8e, why: str | None) -> str:
 def compared_at_teletype(program: str, seed: int) -> str:
     """What is wrong with the run of a random program at the Teletype, at which no key is struck."""
     case = Case(Random(seed))
-    case.remove_devices()
     machine, why = case.machine(), None
     for _ in range(LIMIT):
         machine.begin()
@@ -169,16 +165,14 @@ def compared_at_teletype(program: str, seed: int) -> str:
     printed = bytes(it & 0o177 for it in machine.printed if it & 0o177)
     with tempfile.TemporaryDirectory(prefix="pdp8-machine8e-") as folder:
         lay(folder, case.files())
-        times = ["--disk-time", str(case.times[0]), "--seek-time", str(case.times[1])] if case.disks() else []
-        words = [program, "teletype", "TAPE", "--cpu", "8e", "--start", "200", "--steps", str(LIMIT), *case.disks(), *times]
-        done = subprocess.run(words, cwd=folder, stdin=subprocess.DEVNULL, capture_output=True, timeout=patience(120))
+        done = subprocess.run([program, "teletype", "TAPE", *case.options(LIMIT)], cwd=folder, stdin=subprocess.DEVNULL, capture_output=True, timeout=patience(120))
         got = (done.stderr.decode("latin1").splitlines() or [""])[-1]
         waits = got.startswith("KEYS END ") and machine.here - int(got.split()[-1], 8) in (0, 1)
         if done.returncode != got.startswith("LIMIT") or not (waits or got == last_line(machine, why)):
             return f"seed {seed}: at the Teletype the status is {done.returncode}, and it ends with {got}, not {last_line(machine, why)}"
         if done.stdout != printed:
             return f"seed {seed}: at the Teletype it prints {done.stdout!r}, not {printed!r}"
-        other = other_file(folder, case.wanted_disks(machine))
+        other = other_file(folder, case.wanted_files(machine))
     return f"seed {seed}: at the Teletype {other} has other bytes" if other else ""
 
 

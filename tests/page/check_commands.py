@@ -31,7 +31,10 @@ def text_of(path: str) -> str:
 def commands() -> dict[str, list[str]]:
     """The commands, each with its arguments, and its options as they are typed."""
     rows = text_of(f"{TABLE}/rows.rt")
-    found = {it[1]: re.findall(r'(?m)^    "([\w-]+)"', it[2]) for it in re.finditer(r"(?s)pub const (\w+): &\[Argument\] = rows! \{\n(.*?)\n\};", rows)}
+    listed = re.compile(r'(?m)^ +"([\w-]+)"')
+    devices = listed.findall(rows.partition("macro_rules! rows_with_devices {")[2].partition("\n}\n")[0])
+    tables = re.findall(r"(?s)pub const (\w+): &\[Argument\] =\s+rows(_with_devices)?! \{(.*?)\n\};", rows)
+    found = {name: listed.findall(text) + (devices if has_devices else []) for name, has_devices, text in tables}
     table = text_of(f"{TABLE}/table.rt")
     words = dict(re.findall(r'Verb::(\w+), "([\w-]+)", "Usage', table))
     return {words[verb]: [it if it.isupper() else f"--{it}" for it in found[name]] for verb, name in re.findall(r"Verb::(\w+) => (\w+),", table)}

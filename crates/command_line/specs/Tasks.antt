@@ -114,9 +114,16 @@ IsDisk id values form = IsDrive id (codes "0") values form.drive0
 abbrev pub AreFitTimes : DiskForm → Type 0
 AreFitTimes form = (form.disk_time ≤ 1000000) × (form.seek_time ≤ 1000000)
 
+-- the tape in the reader, the files of punch and line printer, and the clock
+abbrev pub AreDevices : List Row → DeviceForm → Type 0
+AreDevices values form = (first_of (codes "reader") values ≡ option_map (λ name. name.bytes.items) form.reader)
+    × (first_of (codes "punch") values ≡ option_map (λ name. name.bytes.items) form.punch)
+    × (first_of (codes "printer") values ≡ option_map (λ name. name.bytes.items) form.printer)
+    × (option_map number_of (one_of (codes "clock") values) ≡ form.clock)
+
 -- how a machine runs at the console, the disk of drive 0 by this argument
 abbrev pub IsConsole : Text → List Row → ConsoleForm → Type 0
-IsConsole id values form = IsDisk id values form.disk
+IsConsole id values form = IsDisk id values form.disk × AreDevices values form.devices
     × IsReadAs word_of (first_of (codes "switches") values) form.switches
     × (option_map number_of (one_of (codes "steps") values) ≡ form.steps) × (form.every ≡ time_or 1000000 (codes "every") values)
     × (first_of (codes "ends-with") values ≡ option_map (λ name. name.bytes.items) form.ends_with) × (form.has_capitals ≡ is_set (codes "capitals") values)
@@ -125,13 +132,6 @@ IsConsole id values form = IsDisk id values form.disk
 -- its limit of instructions is 1 up, and its times and the instructions between saves are 0 to 1000000
 abbrev pub AreFitLimits : ConsoleForm → Type 0
 AreFitLimits form = IfSome form.steps (λ steps. 1 ≤ steps) × AreFitTimes form.disk × (form.every ≤ 1000000)
-
--- the tape in the reader, the files of punch and line printer, and the clock
-abbrev pub AreDevices : List Row → DeviceForm → Type 0
-AreDevices values form = (first_of (codes "reader") values ≡ option_map (λ name. name.bytes.items) form.reader)
-    × (first_of (codes "punch") values ≡ option_map (λ name. name.bytes.items) form.punch)
-    × (first_of (codes "printer") values ≡ option_map (λ name. name.bytes.items) form.printer)
-    × (option_map number_of (one_of (codes "clock") values) ≡ form.clock)
 
 -- a tape is traced or profiled so
 abbrev pub IsTraceForm : List Row → TraceForm → Type 0

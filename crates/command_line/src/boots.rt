@@ -8,6 +8,7 @@ ghost use Rattle.command_table.specs.declared.table.Verb.TheVariants as verb;
 ghost use Rattle.command_line.specs.Steps.{IsAskedBy, Needs};
 ghost use Rattle.command_line.specs.Tasks.{AreFitLimits, AreFitTimes, IsConsole, IsDisk, IsDrive};
 
+use crate::devices::devices_of;
 use clap::ArgMatches;
 use command_table::{
     Read, Verb, count_of, flag, names_drive, octal_of, time_of, value_if_given, wait_of,
@@ -49,13 +50,20 @@ pub fn console_of(alloc: Global, found: &ArgMatches<'_>, verb: Verb, id: &str) -
     requires capitals { kind_at (codes "capitals") (rows_for verb) ≡ Some kind.Flag }
     requires raw { kind_at (codes "raw") (rows_for verb) ≡ Some kind.Flag }
     requires live { kind_at (codes "live") (rows_for verb) ≡ Some kind.Flag }
+    requires reader { takes_text (kind_at (codes "reader") (rows_for verb)) ≡ true }
+    requires punch { takes_text (kind_at (codes "punch") (rows_for verb)) ≡ true }
+    requires printer { takes_text (kind_at (codes "printer") (rows_for verb)) ≡ true }
+    requires clock { kind_at (codes "clock") (rows_for verb) ≡ Some kind.Count }
+    requires ticks { IsTaken kind.Count (codes "clock") (values_in found.now) }
     ensures console { IfOk result (IsConsole id.now (values_in found.now)) }
     ensures limits { IfOk result AreFitLimits }
 {
     let disk = disk_of(alloc, found, verb, id)?;
+    let devices = devices_of(alloc, found, verb)?;
     let ends_with = value_if_given(alloc, found, verb, "ends-with")?;
     Ok(ConsoleForm {
         disk,
+        devices,
         switches: octal_of(found, verb, "switches"),
         steps: count_of(found, verb, "steps"),
         every: time_of(found, verb, "every", USUAL_EVERY),

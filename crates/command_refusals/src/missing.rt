@@ -105,7 +105,10 @@ fn is_8e(name: Option<&str>) -> bool
 fn says_of_console(found: &ArgMatches<'_>) -> bool
     ensures { result ≡ spec.says_of_console (values_in found.now) }
 {
-    says_of_disk(found) || has(found, "every") || is_set(found, "capitals")
+    says_of_disk(found)
+        || says_of_devices(found)
+        || has(found, "every")
+        || is_set(found, "capitals")
 }
 
 /// Whether something is said of reader, punch, line printer or clock of an 8/E.

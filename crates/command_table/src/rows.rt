@@ -27,6 +27,20 @@ macro_rules! rows {
     };
 }
 
+/// The rows of a subcommand, of which those on reader, punch, line printer and clock of an 8/E stand between these.
+macro_rules! rows_with_devices {
+    ($reader:literal, { $($before:tt)* } { $($after:tt)* }) => {
+        rows! {
+            $($before)*
+            "reader" option Kind::One(Form::Text), "FILE", $reader;
+            "punch" option Kind::One(Form::Text), "FILE", "The file that gets what is punched";
+            "printer" option Kind::One(Form::Text), "FILE", "The file that gets what is printed on the line printer";
+            "clock" option Kind::Count, "N", "The instructions from tick to tick of the clock, 1 up; without it there is no clock";
+            $($after)*
+        }
+    };
+}
+
 pub const TAPE: &[Argument] = rows! {
     "TAPE" may Kind::Word, "", "The file of the tape, or of the image that holds NAME; else standard input";
     "NAME" may Kind::Word, "", "The name of the file on the volume";
@@ -74,76 +88,86 @@ pub const ASSEMBLE: &[Argument] = rows! {
     "wait" option Kind::One(Form::Seconds), "SECONDS", "With --onto wait so long while another program holds the image, 0 to 3600 seconds; else not at all";
 };
 
-pub const TELETYPE: &[Argument] = rows! {
-    "TAPE" must Kind::Word, "", "The file of the tape, or of the image that holds NAME";
-    "NAME" may Kind::Word, "", "The name of the file on the volume";
-    "cpu" option Kind::One(Form::Cpu), "CPU", "The machine, 8i or 8e; else 8i";
-    "start" option Kind::One(Form::Cell), "FAAAA", "The cell to start at, in octal, as 10200 or 1:0200; else 00200 if the tape has that cell, else its first word's";
-    "switches" option Kind::One(Form::Octal), "WWWW", "The word that the switches are set to, in octal; else 0000";
-    "steps" option Kind::Count, "N", "The most instructions that are done, 1 up; without it there is no limit";
-    "raw" flag Kind::Flag, "", "Strike each byte as it is, with no change of line ends and no top bit set";
-    "live" hidden Kind::Flag, "", "Take the keys as they are struck";
-    "rk0" option Kind::One(Form::Text), "IMAGE", "With --cpu 8e the file of the RK05 disk in drive 0";
-    "rk1" option Kind::One(Form::Text), "IMAGE", "The file of the disk in drive 1";
-    "rk2" option Kind::One(Form::Text), "IMAGE", "The file of the disk in drive 2";
-    "rk3" option Kind::One(Form::Text), "IMAGE", "The file of the disk in drive 3";
-    "lock" option Kind::Many(Form::Drive), "DRIVE", "Lock a drive, 0 to 3, so that nothing is written to its disk; may be given for each drive";
-    "look" flag Kind::Flag, "", "Write no file: what is written to a disk is gone at the end";
-    "wait" option Kind::One(Form::Seconds), "SECONDS", "Wait so long while another program holds the file of a disk, 0 to 3600 seconds; else not at all";
-    "disk-time" option Kind::One(Form::Time), "N", "The instructions of a transfer beside its seek, 0 to 1000000; else 10";
-    "seek-time" option Kind::One(Form::Time), "N", "The instructions that an arm takes for each cylinder, 0 to 1000000; else 10";
-    "every" option Kind::One(Form::Time), "N", "Save changed disks while a key is waited for, N instructions or more after the last save, 0 to 1000000; else 1000000, and 0 is for never";
-    "ends-with" hidden Kind::One(Form::Text), "FILE", "End the run once there is a file FILE";
-    "capitals" flag Kind::Flag, "", "With --cpu 8e strike small letters as capitals";
-    "volume" 'v' option Kind::One(Form::Volume), "N", "The volume of an RK05 disk, 1 or 2, where TAPE is the file of one; TAPE:1 and TAPE:2 mean it too";
-    "dectape" flag Kind::Flag, "", "TAPE is the file of a DECtape, of 129 words a block";
-    "plain" flag Kind::Flag, "", "TAPE is one volume from its first byte, whatever stands in it";
+pub const TELETYPE: &[Argument] =
+    rows_with_devices! { "With --cpu 8e the file of the tape in the paper tape reader",
+    {
+        "TAPE" must Kind::Word, "", "The file of the tape, or of the image that holds NAME";
+        "NAME" may Kind::Word, "", "The name of the file on the volume";
+        "cpu" option Kind::One(Form::Cpu), "CPU", "The machine, 8i or 8e; else 8i";
+        "start" option Kind::One(Form::Cell), "FAAAA", "The cell to start at, in octal, as 10200 or 1:0200; else 00200 if the tape has that cell, else its first word's";
+        "switches" option Kind::One(Form::Octal), "WWWW", "The word that the switches are set to, in octal; else 0000";
+        "steps" option Kind::Count, "N", "The most instructions that are done, 1 up; without it there is no limit";
+        "raw" flag Kind::Flag, "", "Strike each byte as it is, with no change of line ends and no top bit set";
+        "live" hidden Kind::Flag, "", "Take the keys as they are struck";
+        "rk0" option Kind::One(Form::Text), "IMAGE", "With --cpu 8e the file of the RK05 disk in drive 0";
+        "rk1" option Kind::One(Form::Text), "IMAGE", "The file of the disk in drive 1";
+        "rk2" option Kind::One(Form::Text), "IMAGE", "The file of the disk in drive 2";
+        "rk3" option Kind::One(Form::Text), "IMAGE", "The file of the disk in drive 3";
+        "lock" option Kind::Many(Form::Drive), "DRIVE", "Lock a drive, 0 to 3, so that nothing is written to its disk; may be given for each drive";
+        "look" flag Kind::Flag, "", "Write no file: what is written to a disk is gone at the end";
+        "wait" option Kind::One(Form::Seconds), "SECONDS", "Wait so long while another program holds the file of a disk, 0 to 3600 seconds; else not at all";
+        "disk-time" option Kind::One(Form::Time), "N", "The instructions of a transfer beside its seek, 0 to 1000000; else 10";
+        "seek-time" option Kind::One(Form::Time), "N", "The instructions that an arm takes for each cylinder, 0 to 1000000; else 10";
+    }
+    {
+        "every" option Kind::One(Form::Time), "N", "Save changed disks while a key is waited for, N instructions or more after the last save, 0 to 1000000; else 1000000, and 0 is for never";
+        "ends-with" hidden Kind::One(Form::Text), "FILE", "End the run once there is a file FILE";
+        "capitals" flag Kind::Flag, "", "With --cpu 8e strike small letters as capitals";
+        "volume" 'v' option Kind::One(Form::Volume), "N", "The volume of an RK05 disk, 1 or 2, where TAPE is the file of one; TAPE:1 and TAPE:2 mean it too";
+        "dectape" flag Kind::Flag, "", "TAPE is the file of a DECtape, of 129 words a block";
+        "plain" flag Kind::Flag, "", "TAPE is one volume from its first byte, whatever stands in it";
+    }
 };
 
 /// The arguments of `trace` and of `profile`.
-pub const TRACE: &[Argument] = rows! {
-    "TAPE" must Kind::Word, "", "The file of the tape, or of the image that holds NAME";
-    "NAME" may Kind::Word, "", "The name of the file on the volume";
-    "cpu" option Kind::One(Form::Cpu), "CPU", "The machine, 8i or 8e; else 8i";
-    "start" option Kind::One(Form::Cell), "FAAAA", "The cell to start at, in octal, as 10200 or 1:0200; else 00200 if the tape has that cell, else its first word's";
-    "switches" option Kind::One(Form::Octal), "WWWW", "The word that the switches are set to, in octal; else 0000";
-    "steps" option Kind::Count, "N", "The most steps that are made, 1 up";
-    "keys" option Kind::One(Form::Text), "TEXT", "The keys to strike, each where the program asks for one; a line's end is CR";
-    "rk0" option Kind::One(Form::Text), "IMAGE", "With --cpu 8e the file of the RK05 disk in drive 0";
-    "rk1" option Kind::One(Form::Text), "IMAGE", "The file of the disk in drive 1";
-    "rk2" option Kind::One(Form::Text), "IMAGE", "The file of the disk in drive 2";
-    "rk3" option Kind::One(Form::Text), "IMAGE", "The file of the disk in drive 3";
-    "lock" option Kind::Many(Form::Drive), "DRIVE", "Lock a drive, 0 to 3, so that nothing is written to its disk; may be given for each drive";
-    "look" flag Kind::Flag, "", "Write no file: what is written to a disk is gone at the end";
-    "wait" option Kind::One(Form::Seconds), "SECONDS", "Wait so long while another program holds the file of a disk, 0 to 3600 seconds; else not at all";
-    "disk-time" option Kind::One(Form::Time), "N", "The instructions of a transfer beside its seek, 0 to 1000000; else 10";
-    "seek-time" option Kind::One(Form::Time), "N", "The instructions that an arm takes for each cylinder, 0 to 1000000; else 10";
-    "reader" option Kind::One(Form::Text), "FILE", "With --cpu 8e the file of the tape in the paper tape reader";
-    "punch" option Kind::One(Form::Text), "FILE", "The file that gets what is punched";
-    "printer" option Kind::One(Form::Text), "FILE", "The file that gets what is printed on the line printer";
-    "clock" option Kind::Count, "N", "The instructions from tick to tick of the clock, 1 up; without it there is no clock";
-    "volume" 'v' option Kind::One(Form::Volume), "N", "The volume of an RK05 disk, 1 or 2, where TAPE is the file of one; TAPE:1 and TAPE:2 mean it too";
-    "dectape" flag Kind::Flag, "", "TAPE is the file of a DECtape, of 129 words a block";
-    "plain" flag Kind::Flag, "", "TAPE is one volume from its first byte, whatever stands in it";
+pub const TRACE: &[Argument] =
+    rows_with_devices! { "With --cpu 8e the file of the tape in the paper tape reader",
+    {
+        "TAPE" must Kind::Word, "", "The file of the tape, or of the image that holds NAME";
+        "NAME" may Kind::Word, "", "The name of the file on the volume";
+        "cpu" option Kind::One(Form::Cpu), "CPU", "The machine, 8i or 8e; else 8i";
+        "start" option Kind::One(Form::Cell), "FAAAA", "The cell to start at, in octal, as 10200 or 1:0200; else 00200 if the tape has that cell, else its first word's";
+        "switches" option Kind::One(Form::Octal), "WWWW", "The word that the switches are set to, in octal; else 0000";
+        "steps" option Kind::Count, "N", "The most steps that are made, 1 up";
+        "keys" option Kind::One(Form::Text), "TEXT", "The keys to strike, each where the program asks for one; a line's end is CR";
+        "rk0" option Kind::One(Form::Text), "IMAGE", "With --cpu 8e the file of the RK05 disk in drive 0";
+        "rk1" option Kind::One(Form::Text), "IMAGE", "The file of the disk in drive 1";
+        "rk2" option Kind::One(Form::Text), "IMAGE", "The file of the disk in drive 2";
+        "rk3" option Kind::One(Form::Text), "IMAGE", "The file of the disk in drive 3";
+        "lock" option Kind::Many(Form::Drive), "DRIVE", "Lock a drive, 0 to 3, so that nothing is written to its disk; may be given for each drive";
+        "look" flag Kind::Flag, "", "Write no file: what is written to a disk is gone at the end";
+        "wait" option Kind::One(Form::Seconds), "SECONDS", "Wait so long while another program holds the file of a disk, 0 to 3600 seconds; else not at all";
+        "disk-time" option Kind::One(Form::Time), "N", "The instructions of a transfer beside its seek, 0 to 1000000; else 10";
+        "seek-time" option Kind::One(Form::Time), "N", "The instructions that an arm takes for each cylinder, 0 to 1000000; else 10";
+    }
+    {
+        "volume" 'v' option Kind::One(Form::Volume), "N", "The volume of an RK05 disk, 1 or 2, where TAPE is the file of one; TAPE:1 and TAPE:2 mean it too";
+        "dectape" flag Kind::Flag, "", "TAPE is the file of a DECtape, of 129 words a block";
+        "plain" flag Kind::Flag, "", "TAPE is one volume from its first byte, whatever stands in it";
+    }
 };
 
-pub const BOOT: &[Argument] = rows! {
-    "IMAGE" must Kind::Word, "", "The file of the RK05 disk in drive 0, which is booted";
-    "rk1" option Kind::One(Form::Text), "IMAGE", "The file of the disk in drive 1";
-    "rk2" option Kind::One(Form::Text), "IMAGE", "The file of the disk in drive 2";
-    "rk3" option Kind::One(Form::Text), "IMAGE", "The file of the disk in drive 3";
-    "lock" option Kind::Many(Form::Drive), "DRIVE", "Lock a drive, 0 to 3, so that nothing is written to its disk; may be given for each drive";
-    "look" flag Kind::Flag, "", "Write no file: what is written to a disk is gone at the end";
-    "wait" option Kind::One(Form::Seconds), "SECONDS", "Wait so long while another program holds the file of a disk, 0 to 3600 seconds; else not at all";
-    "disk-time" option Kind::One(Form::Time), "N", "The instructions of a transfer beside its seek, 0 to 1000000; else 10";
-    "seek-time" option Kind::One(Form::Time), "N", "The instructions that an arm takes for each cylinder, 0 to 1000000; else 10";
-    "switches" option Kind::One(Form::Octal), "WWWW", "The word that the switches are set to, in octal; else 0000";
-    "steps" option Kind::Count, "N", "The most steps that are made, 1 up; without it there is no limit";
-    "every" option Kind::One(Form::Time), "N", "Save changed disks while a key is waited for, N instructions or more after the last save, 0 to 1000000; else 1000000, and 0 is for never";
-    "ends-with" hidden Kind::One(Form::Text), "FILE", "End the run once there is a file FILE";
-    "capitals" flag Kind::Flag, "", "Strike small letters as capitals";
-    "raw" flag Kind::Flag, "", "Strike each byte as it is, with no change of line ends and no top bit set";
-    "live" hidden Kind::Flag, "", "Take the keys as they are struck";
+pub const BOOT: &[Argument] = rows_with_devices! { "The file of the tape in the paper tape reader",
+    {
+        "IMAGE" must Kind::Word, "", "The file of the RK05 disk in drive 0, which is booted";
+        "rk1" option Kind::One(Form::Text), "IMAGE", "The file of the disk in drive 1";
+        "rk2" option Kind::One(Form::Text), "IMAGE", "The file of the disk in drive 2";
+        "rk3" option Kind::One(Form::Text), "IMAGE", "The file of the disk in drive 3";
+        "lock" option Kind::Many(Form::Drive), "DRIVE", "Lock a drive, 0 to 3, so that nothing is written to its disk; may be given for each drive";
+        "look" flag Kind::Flag, "", "Write no file: what is written to a disk is gone at the end";
+        "wait" option Kind::One(Form::Seconds), "SECONDS", "Wait so long while another program holds the file of a disk, 0 to 3600 seconds; else not at all";
+        "disk-time" option Kind::One(Form::Time), "N", "The instructions of a transfer beside its seek, 0 to 1000000; else 10";
+        "seek-time" option Kind::One(Form::Time), "N", "The instructions that an arm takes for each cylinder, 0 to 1000000; else 10";
+    }
+    {
+        "switches" option Kind::One(Form::Octal), "WWWW", "The word that the switches are set to, in octal; else 0000";
+        "steps" option Kind::Count, "N", "The most steps that are made, 1 up; without it there is no limit";
+        "every" option Kind::One(Form::Time), "N", "Save changed disks while a key is waited for, N instructions or more after the last save, 0 to 1000000; else 1000000, and 0 is for never";
+        "ends-with" hidden Kind::One(Form::Text), "FILE", "End the run once there is a file FILE";
+        "capitals" flag Kind::Flag, "", "Strike small letters as capitals";
+        "raw" flag Kind::Flag, "", "Strike each byte as it is, with no change of line ends and no top bit set";
+        "live" hidden Kind::Flag, "", "Take the keys as they are struck";
+    }
 };
 
 pub const RUN: &[Argument] = rows! {

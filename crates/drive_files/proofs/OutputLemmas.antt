@@ -4,14 +4,18 @@ use Rattle.std.specs.Str.{bytes_eq}
 use Rattle.hosts.specs.Event.{Call, Event, Alter, Resolve, Hold, DropSeconds, Look, TakeInput, Alone, Leads, LockBeside, Free, There, MakeFolder, Print, Tell, Terminal, Seconds, Pause, Word, EndOfWords, TimeOf, Same, DropLeftovers}
 use Rattle.hosts.specs.Streams.{output, output_text, with_printed, with_text}
 use Rattle.hosts.specs.declared.faults.Unwritten.TheVariants.{AsItWas, InPart}
+use Rattle.pdp8e.specs.Papers.{PaperState, PapersState}
 use Rattle.rk8e.specs.Packs.{PackState}
 use Rattle.rk8e.specs.State.{DiskState}
-use Rattle.outcome.specs.declared.contents.Content.TheVariants.{Image}
+use Rattle.outcome.specs.declared.contents.Content.{Content}
+use Rattle.outcome.specs.declared.contents.Content.TheVariants.{Image, Tape}
 use Rattle.outcome.specs.declared.endings.Ending.{Ending}
 use Rattle.outcome.specs.declared.endings.Ending.TheVariants.{Line, Fault, Failure, Busy, NotWritten, FullOutput, Unreported, NoReader, Misuse}
 use Rattle.image_files.specs.Saving.{Writes}
 use Rattle.image_files.specs.declared.reading.ImagePlace.{ImagePlace}
 use Rattle.drive_files.specs.Saving.{SavesBytes, SavesDrive, SavesDrives, SavesPack, WantsMemory}
+use Rattle.drive_files.specs.Devices.{SavesPaper, SavesPapers}
+use Rattle.drive_files.specs.declared.devices.PaperPlace.{PaperPlace}
 use Rattle.drive_files.specs.declared.mounting.Places.{Places}
 
 abbrev text_of : List (Bool × List ℕ) → List ℕ
@@ -59,23 +63,23 @@ same_text old new same = text_is new ∙ (ap text_of same ∙ sym (text_is old))
 abbrev KeepsText : List Event → List Event → Type 0
 KeepsText old new = output_text new ≡ output_text old
 
-writes-text : (path name file : List ℕ) (old : List Event) (result : Result (Unit {0}) Ending) (new : List Event) → Writes Image path name file old result new → KeepsText old new
-writes-text path name file old (Ok it) new w = same_text old new w.only.prints
-writes-text path name file old (Err (NotWritten it AsItWas)) new (is, fault, between, u, (text, ok, reason, p)) = ap output_text p ∙ same_text old between u.only.prints
-writes-text path name file old (Err (NotWritten it InPart)) new (is, fault, between, u, (text, ok, reason, p)) = ap output_text p ∙ same_text old between u.only.prints
-writes-text path name file old (Err (Line it)) new w = absurd w
-writes-text path name file old (Err (Fault it)) new w = absurd w
-writes-text path name file old (Err Failure) new w = absurd w
-writes-text path name file old (Err (Busy it)) new w = absurd w
-writes-text path name file old (Err FullOutput) new w = absurd w
-writes-text path name file old (Err Unreported) new w = absurd w
-writes-text path name file old (Err NoReader) new w = absurd w
-writes-text path name file old (Err Misuse) new w = absurd w
+writes-text : (content : Content) (path name file : List ℕ) (old : List Event) (result : Result (Unit {0}) Ending) (new : List Event) → Writes content path name file old result new → KeepsText old new
+writes-text content path name file old (Ok it) new w = same_text old new w.only.prints
+writes-text content path name file old (Err (NotWritten it AsItWas)) new (is, fault, between, u, (text, ok, reason, p)) = ap output_text p ∙ same_text old between u.only.prints
+writes-text content path name file old (Err (NotWritten it InPart)) new (is, fault, between, u, (text, ok, reason, p)) = ap output_text p ∙ same_text old between u.only.prints
+writes-text content path name file old (Err (Line it)) new w = absurd w
+writes-text content path name file old (Err (Fault it)) new w = absurd w
+writes-text content path name file old (Err Failure) new w = absurd w
+writes-text content path name file old (Err (Busy it)) new w = absurd w
+writes-text content path name file old (Err FullOutput) new w = absurd w
+writes-text content path name file old (Err Unreported) new w = absurd w
+writes-text content path name file old (Err NoReader) new w = absurd w
+writes-text content path name file old (Err Misuse) new w = absurd w
 
 bytes-text : (is_same : Bool) (file : List ℕ) (place : ImagePlace) (saved saved' : List ℕ) (old : List Event) (result : Result (Unit {0}) Ending) (new : List Event)
     → SavesBytes is_same file place saved saved' old result new → KeepsText old new
 bytes-text true file place saved saved' old result new p = ap output_text p.0.1
-bytes-text false file place saved saved' old result new p = writes-text place.path.bytes.items place.name.bytes.items file old result new p.0
+bytes-text false file place saved saved' old result new p = writes-text Image place.path.bytes.items place.name.bytes.items file old result new p.0
 
 wants-text : (old : List Event) (result : Result (Unit {0}) Ending) (new : List Event) → WantsMemory old result new → KeepsText old new
 wants-text old (Ok it) new p = absurd p
@@ -101,3 +105,12 @@ saves-text disk places places' old result new s =
     ∙ (drive-text 2 disk.drive2.pack places.place2 places.rooms.saved2.items places'.rooms.saved2.items s.after_second s.third s.after_third s.saves2
     ∙ (drive-text 1 disk.drive1.pack places.place1 places.rooms.saved1.items places'.rooms.saved1.items s.after_first s.second s.after_second s.saves1
     ∙ drive-text 0 disk.drive0.pack places.place0 places.rooms.saved0.items places'.rooms.saved0.items old s.first s.after_first s.saves0))
+
+paper-text : (paper : PaperState) (place : Option PaperPlace) (old : List Event) (result : Result (Unit {0}) Ending) (new : List Event) → SavesPaper paper place old result new → KeepsText old new
+paper-text paper None old result new p = ap output_text p.1
+paper-text paper (Some place) old result new p = writes-text Tape place.path.bytes.items place.name.bytes.items paper.bytes old p.written new p.writes
+
+pub papers-text : (papers : PapersState) (punch printer : Option PaperPlace) (old : List Event) (result : Result (Unit {0}) Ending) (new : List Event)
+    → SavesPapers papers punch printer old result new → output_text new ≡ output_text old
+papers-text papers punch printer old result new s =
+    paper-text papers.printer printer s.between s.second new s.saves_printer ∙ paper-text papers.punch punch old s.first s.between s.saves_punch

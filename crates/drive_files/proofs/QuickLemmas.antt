@@ -1,8 +1,9 @@
 -- Steps that a machine at the console quickly makes.
-use Rattle.std.proofs.Common.{◌≡◌, ℕ, zero, suc, ◌+◌, ◌%◌, ◌^◌, ◌<◌, ◌≤◌, Bool, true, false, ◌&&◌, ◌||◌, not, nat_le, if◌then◌else◌, refl, ap, sym, ◌∙◌, arith}
+use Rattle.std.proofs.Common.{◌≡◌, ℕ, zero, suc, ◌+◌, ◌%◌, ◌^◌, ◌<◌, ◌≤◌, Bool, true, false, ◌&&◌, ◌||◌, not, nat_le, if◌then◌else◌, Option, None, refl, ap, sym, ◌∙◌, arith}
 use Rattle.pdp8e.specs.State.{Pdp8e}
 use Rattle.pdp8e.specs.Runs.{printing_step, after_keys, after, AreUnasked}
 use Rattle.pdp8e.specs.Asks.{asks_for_key}
+use Rattle.pdp8e.specs.Papers.{PapersState, papers_after, with_byte_if}
 use Rattle.pdp8e.proofs.QuickLemmas.{none_asked}
 use Rattle.terminal8e.specs.AnyTerminal as any
 use Rattle.terminal8e.specs.AnyTerminal.{GoesUnasked}
@@ -14,10 +15,17 @@ none-more : (s : Console) (busy : Bool) → (if busy && not busy then (s.transfe
 none-more s true = refl
 none-more s false = refl
 
-step-keeps : (s : Console) (m : Pdp8e) → m.disk.control.busy ≡ s.machine.disk.control.busy → with_step s m ≡ with_machine s m
-step-keeps s m same =
-    ap (λ (b : Bool). let x : Console = record s { machine = m; transfers = if s.machine.disk.control.busy && not b then (s.transfers + 1) % 2 ^ 64 else s.transfers } in x) same
-    ∙ ap (λ (n : ℕ). let x : Console = record s { machine = m; transfers = n } in x) (none-more s s.machine.disk.control.busy)
+-- a step that writes on no paper leaves them
+papers-keep : (m : Pdp8e) (p : PapersState) → m.devices.punch.writing ≡ None → m.devices.printer.writing ≡ None → papers_after m p ≡ p
+papers-keep m p punch printer =
+    ap (λ (byte : Option ℕ). let x : PapersState = record { punch = with_byte_if byte p.punch; printer = with_byte_if m.devices.printer.writing p.printer } in x) punch
+    ∙ ap (λ (byte : Option ℕ). let x : PapersState = record { punch = p.punch; printer = with_byte_if byte p.printer } in x) printer
+
+step-keeps : (s : Console) (m : Pdp8e) → m.disk.control.busy ≡ s.machine.disk.control.busy → m.devices.punch.writing ≡ None → m.devices.printer.writing ≡ None → with_step s m ≡ with_machine s m
+step-keeps s m same punch printer =
+    ap (λ (b : Bool). let x : Console = record s { machine = m; transfers = if s.machine.disk.control.busy && not b then (s.transfers + 1) % 2 ^ 64 else s.transfers; papers = papers_after m s.papers } in x) same
+    ∙ ap (λ (n : ℕ). let x : Console = record s { machine = m; transfers = n; papers = papers_after m s.papers } in x) (none-more s s.machine.disk.control.busy)
+    ∙ ap (λ (p : PapersState). let x : Console = record s { machine = m; papers = p } in x) (papers-keep m s.papers punch printer)
 
 -- a transfer that is under way stays so
 busy-same : (looks : Bool) (m : Pdp8e) (count : ℕ) → AreUnasked looks m count → (k : ℕ) → k ≤ count → (after k m).disk.control.busy ≡ m.disk.control.busy
@@ -34,6 +42,8 @@ same-after looks s count unasked (suc k) within =
     ap (λ (x : Console). (console_acts.printing_step x).0) before
     ∙ step-keeps (with_machine s m) next
     (busy-same looks s.machine count unasked (suc k) within ∙ sym (busy-same looks s.machine count unasked k (omega (arith, within))))
+    (ap (λ (x : Pdp8e). x.devices.punch.writing) (unasked.passes (suc k) within) ∙ unasked.punch (omega (arith, within)))
+    (ap (λ (x : Pdp8e). x.devices.printer.writing) (unasked.passes (suc k) within) ∙ unasked.printer (omega (arith, within)))
 
 pub goes-unasked : (s : Console) (new : Pdp8e) (since count : ℕ) → new ≡ after count s.machine → AreUnasked (nat_le 30000 since) s.machine count
     → ((j : ℕ) → j < count → (nat_le 30000 (since + j) && (not (nat_le 30000 since) || (s.machine.processor.base.interrupts_on && s.machine.processor.console_enabled))) ≡ false)

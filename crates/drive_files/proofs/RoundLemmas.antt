@@ -16,11 +16,12 @@ use Rattle.terminal8e.specs.Parts.{ComesTo, HasCome, IsPause, IsWithin}
 use Rattle.terminal8e.specs.declared.sittings.Sitting.{Sitting}
 use Rattle.program_tasks.specs.declared.boots.ConsoleForm.{ConsoleForm}
 use Rattle.outcome.specs.declared.endings.Ending.{Ending}
-use Rattle.image_files.specs.Saving.{IsDone}
 use Rattle.drive_files.specs.Inputs.{form_of, input_of}
 use Rattle.drive_files.specs.declared.mounting.Places.{Places}
-use Rattle.drive_files.proofs.OutputLemmas.{saves-text}
-use Rattle.drive_files.specs.Rounds.{AsksForEnd, AsksThen, DoesAfter, DoesBetween, EndsOrBreaks, IsBroken, SavedPlaces, Rounds, RunsRounds, none_saved}
+use Rattle.drive_files.proofs.OutputLemmas.{papers-text, saves-text}
+use Rattle.drive_files.specs.Rounds.{AsksAfter, AsksForEnd, DoesAfter, DoesBetween, EndsOrBreaks, FilesIfGrown, IsBroken, SavedPlaces, SavesIfDue, Rounds, RunsRounds, none_saved}
+use Rattle.drive_files.specs.declared.rounds.LastSave.{LastSave}
+use Rattle.drive_files.specs.declared.rounds.Unsaved.{Unsaved}
 use Rattle.drive_files.specs.declared.rounds.Ran.{Ran}
 use Rattle.drive_files.specs.Consoles.{console_acts}
 use Rattle.drive_files.specs.declared.consoles.Console.{Console}
@@ -31,20 +32,34 @@ asks-text : (name : Option (String Global)) (old : List Event) (is_asked : Bool)
 asks-text None old is_asked new p = ap output_text p.1
 asks-text (Some name) old is_asked new p = ap output_text p
 
-then-text : (name : Option (String Global)) (old : List Event) (result : Result Bool Ending) (new : List Event) → AsksThen name old result new → output_text new ≡ output_text old
-then-text name old (Ok is_asked) new p = asks-text name old is_asked new p
-then-text name old (Err ending) new p = absurd p
-
-after-text : (name : Option (String Global)) (saved : Result (Unit {0}) Ending) (old : List Event) (result : Result Bool Ending) (new : List Event) → DoesAfter name saved old result new → output_text new ≡ output_text old
-after-text name (Ok it) old result new p = then-text name old result new p
-after-text name (Err ending) old (Ok it) new p = absurd p
-after-text name (Err ending) old (Err why) new p = ap output_text p.1
-
-pub between-text : (form : ConsoleForm) (steps : ℕ) (s : Console) (kept kept' : SavedPlaces) (old : List Event) (result : Result Bool Ending) (new : List Event) → DoesBetween form steps s kept kept' old result new
+asks-after-text : (name : Option (String Global)) (filed : Result (Unit {0}) Ending) (old : List Event) (result : Result Bool Unsaved) (new : List Event) → AsksAfter name filed old result new
     → output_text new ≡ output_text old
-between-text form steps s kept kept' old result new (inl (due, is, p)) = then-text form.ends_with old result new p
-between-text form steps s kept kept' old result new (inr (saved, between, saves, p)) =
-    after-text form.ends_with saved between result new p ∙ saves-text s.machine.disk kept.0 kept'.0 old saved between saves.saves
+asks-after-text name (Ok it) old (Ok is_asked) new p = asks-text name old is_asked new p
+asks-after-text name (Ok it) old (Err why) new p = absurd p
+asks-after-text name (Err ending) old (Ok is_asked) new p = absurd p
+asks-after-text name (Err ending) old (Err why) new p = ap output_text p.1
+
+saves-if-text : (form : ConsoleForm) (steps : ℕ) (s : Console) (kept kept' : SavedPlaces) (old : List Event) (result : Result (Unit {0}) Ending) (new : List Event) → SavesIfDue form steps s kept kept' old result new
+    → output_text new ≡ output_text old
+saves-if-text form steps s kept kept' old result new (inl (due, is, p)) = ap output_text p.1
+saves-if-text form steps s kept kept' old result new (inr there) = saves-text s.machine.disk kept.0 kept'.0 old result new there.saves
+
+files-if-text : (s : Console) (places : Places) (last last' : LastSave) (old : List Event) (result : Result (Unit {0}) Ending) (new : List Event) → FilesIfGrown s places last last' old result new
+    → output_text new ≡ output_text old
+files-if-text s places last last' old result new (inl (grown, is, p)) = ap output_text p.1
+files-if-text s places last last' old result new (inr there) = papers-text s.papers places.punch places.printer old result new there.saves
+
+after-text : (name : Option (String Global)) (s : Console) (saved : Result (Unit {0}) Ending) (kept kept' : SavedPlaces) (old : List Event) (result : Result Bool Unsaved) (new : List Event)
+    → DoesAfter name s saved kept kept' old result new → output_text new ≡ output_text old
+after-text name s (Ok it) kept kept' old result new (filed, last, between, files, is, asks) =
+    asks-after-text name filed between result new asks ∙ files-if-text s kept.0 kept.1 last old filed between files
+after-text name s (Err ending) kept kept' old (Ok is_asked) new p = absurd p
+after-text name s (Err ending) kept kept' old (Err why) new (is, same, p) = ap output_text p
+
+pub between-text : (form : ConsoleForm) (steps : ℕ) (s : Console) (kept kept' : SavedPlaces) (old : List Event) (result : Result Bool Unsaved) (new : List Event) → DoesBetween form steps s kept kept' old result new
+    → output_text new ≡ output_text old
+between-text form steps s kept kept' old result new (saved, mid, between, saves, after) =
+    after-text form.ends_with s saved mid kept' between result new after ∙ saves-if-text form steps s kept mid old saved between saves
 
 -- ## The rounds
 
@@ -122,7 +137,7 @@ pub ended-rounds : (form : ConsoleForm) (first after : Console) (places : Places
     → most ≡ unwrap_or form.steps (2 ^ 64 - 1) → earlier ≤ most → HaveMade form first earlier (places, none_saved) mid old before
     → RunsProgram console_acts (form_of form.is_raw) (input_of form.is_live) most first after keys.before keys.after (Some (output_text old)) (Some (output_text new)) answer
     → HasPrinted before new fault → IfErr answer (λ it. it ≡ terminal.Writer → is_some fault ≡ true) → IfErr answer (λ it. it ≡ terminal.Reader → keys.has_failed)
-    → ran.fault ≡ fault → ran.answer ≡ answer → IsDone ran.save → RunsRounds form first after places mid.0 keys old ran new
+    → ran.fault ≡ fault → ran.answer ≡ answer → ran.save ≡ Ok tt → RunsRounds form first after places mid.0 keys old ran new
 ended-rounds form first after places mid keys old before new ran earlier most fault answer is within made runs prints cause failed same-fault same-answer saved = record {
   most = most;
   runs = subst (λ a. RunsProgram console_acts (form_of form.is_raw) (input_of form.is_live) most first after keys.before keys.after (Some (output_text old)) (Some (output_text new)) a) (sym same-answer) runs;
@@ -166,10 +181,10 @@ pub broken-by-print : (form : ConsoleForm) (first after : Console) (places : Pla
     → IfErr ran.answer (λ _. ⊥) → HasPrinted before new fault → is_some fault ≡ true → ran.fault ≡ fault → ran.save ≡ Ok tt → RunsRounds form first after places mid.0 keys old ran new
 broken-by-print form first after places mid keys old before new ran earlier steps fault less made runs none prints some same saved =
     broken form first after places mid mid keys old before new ran earlier steps less made runs none
-    (inl (inr (ap (λ f. is_some f) same ∙ some), subst (λ f. HasPrinted before new f) (sym same) prints, subst IsDone (sym saved) tt, refl))
+    (inl (inr (ap (λ f. is_some f) same ∙ some), subst (λ f. HasPrinted before new f) (sym same) prints, saved, refl))
 
 -- it is broken off by what was done after a round
-pub broken-between : (form : ConsoleForm) (first after : Console) (places : Places) (mid kept' : SavedPlaces) (keys : Reading) (old before printed new : List Event) (ran : Ran) (earlier steps : ℕ) (result : Result Bool Ending)
+pub broken-between : (form : ConsoleForm) (first after : Console) (places : Places) (mid kept' : SavedPlaces) (keys : Reading) (old before printed new : List Event) (ran : Ran) (earlier steps : ℕ) (result : Result Bool Unsaved)
     → earlier < steps → HaveMade form first earlier (places, none_saved) mid old before
     → RunsProgram console_acts (form_of form.is_raw) (input_of form.is_live) steps first after keys.before keys.after (Some (output_text old)) (Some (output_text new)) ran.answer
     → IfErr ran.answer (λ _. ⊥) → HasPrinted before printed None → DoesBetween form steps after mid kept' printed result new → IsBroken result ran.save → ran.fault ≡ None

@@ -1,15 +1,16 @@
--- A whole 8/E at whose keyboard small letters may be struck as capitals (this project's profile).
+-- A whole 8/E at whose keyboard small letters may be struck as capitals, and what it puts on paper (this project's profile).
 use Rattle.std.specs.Prelude.{ℕ, ◌+◌, ◌-◌, ◌%◌, ◌^◌, Bool, ◌&&◌, not, nat_le, if◌then◌else◌}
 use Rattle.pdp8e.specs.State.{Pdp8e, key_struck}
 use Rattle.pdp8e.specs.Runs.{printing_step}
 use Rattle.pdp8e.specs.Asks.{asks_for_key, waits_for_key}
+use Rattle.pdp8e.specs.Papers.{PapersState, papers_after}
 use Rattle.terminal8e.specs.Acts.{Acts}
 use Rattle.program_tasks.specs.declared.boots.ConsoleForm.{ConsoleForm}
 use Rattle.drive_files.specs.declared.consoles.Console.{Console}
 
--- a machine at the console, before its first step
-abbrev pub console_with : ConsoleForm → Pdp8e → Console
-console_with form machine = record { machine = machine; has_capitals = form.has_capitals; transfers = 0 }
+-- a machine at the console, before its first step, with these papers
+abbrev pub console_with : ConsoleForm → Pdp8e → PapersState → Console
+console_with form machine papers = record { machine = machine; has_capitals = form.has_capitals; transfers = 0; papers = papers }
 
 -- a small letter of ASCII, whatever its top bit
 abbrev pub is_small : ℕ → Bool
@@ -23,11 +24,12 @@ key_of has_capitals character = if has_capitals && is_small character then chara
 abbrev pub with_machine : Console → Pdp8e → Console
 with_machine s machine = record s { machine = machine }
 
--- what a step leaves, by which a transfer may have ended
+-- what a step leaves, by which a transfer may have ended, and which may have written on paper
 abbrev pub with_step : Console → Pdp8e → Console
 with_step s machine = record s {
   machine = machine;
   transfers = if s.machine.disk.control.busy && not machine.disk.control.busy then (s.transfers + 1) % 2 ^ 64 else s.transfers;
+  papers = papers_after machine s.papers;
 }
 
 -- what a terminal asks of it
@@ -40,6 +42,10 @@ console_acts = record {
   printing_step = λ s. (with_step s (printing_step s.machine).0, (printing_step s.machine).1);
 }
 
--- its program waits for a key, and no transfer is under way
+-- its program waits for a key
+abbrev pub is_waiting : Console → Bool
+is_waiting s = asks_for_key 0 s.machine
+
+-- and no transfer is under way
 abbrev pub is_at_wait : Console → Bool
-is_at_wait s = asks_for_key 0 s.machine && not s.machine.disk.control.busy
+is_at_wait s = is_waiting s && not s.machine.disk.control.busy

@@ -3,6 +3,7 @@ pub mod Drives
 pub mod Mounting
 pub mod Opening
 pub mod Saving
+pub mod Devices
 pub mod Consoles
 pub mod Inputs
 pub mod Rounds

@@ -4,6 +4,7 @@ use Rattle.rk8e.specs.State.{DriveState, DiskState, new_control, new_drive, with
 use Rattle.program_tasks.specs.declared.boots.DiskForm.{DiskForm}
 use Rattle.image_files.specs.declared.reading.ImagePlace.{ImagePlace}
 use Rattle.drive_files.specs.declared.mounting.Places.{Places}
+use Rattle.drive_files.specs.declared.devices.OpenDevices.{OpenDevices}
 use Rattle.drive_files.specs.declared.opening.OpenDisk.{OpenDisk}
 use Rattle.drive_files.specs.declared.opening.OpenDrives.{OpenDrives}
 
@@ -47,4 +48,10 @@ places_of drives = record {
   place3 = place_of drives.disk3;
   rooms = drives.rooms;
   saves = 0;
+  punch = None;
+  printer = None;
 }
+
+-- with those of punch and line printer
+abbrev pub with_papers : OpenDevices → Places → Places
+with_papers devices places = record places { punch = devices.punch; printer = devices.printer }

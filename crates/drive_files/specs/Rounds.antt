@@ -1,5 +1,5 @@
--- A run in rounds. Between two of them changed disks may be saved, and an end may be asked for (this project's profile).
-use Rattle.std.specs.Prelude.{◌≡◌, ◌⊎◌, ◌<◌, ◌≤◌, ◌==◌, ℕ, zero, suc, ◌-◌, ◌^◌, Bool, true, false, ◌&&◌, not, nat_eq, nat_le, nat_lt, if◌then◌else◌, is_some, unwrap_or, IfErr, Option, None, Some, String, Result, Ok, Err, List, ◌∷◌}
+-- A run in rounds. Between two of them changed disks and papers may be saved, and an end may be asked for (this project's profile).
+use Rattle.std.specs.Prelude.{◌≡◌, ◌⊎◌, ◌<◌, ◌≤◌, ◌==◌, ℕ, zero, suc, ◌-◌, ◌^◌, Bool, true, false, ◌&&◌, ◌||◌, not, nat_eq, nat_le, nat_lt, if◌then◌else◌, is_some, unwrap_or, IfErr, Option, None, Some, String, Result, Ok, Err, List, ◌∷◌, length}
 use Rattle.std.specs.Global.{Global}
 use Rattle.byte_reader.specs.Readings.{Reading}
 use Rattle.terminal8.specs.declared.outcomes.TerminalFault.TheVariants as terminal
@@ -10,24 +10,26 @@ use Rattle.hosts.specs.Streams.{output_text}
 use Rattle.host_output.specs.Printing.{HasPrinted}
 use Rattle.program_tasks.specs.declared.boots.ConsoleForm.{ConsoleForm}
 use Rattle.outcome.specs.declared.endings.Ending.{Ending}
-use Rattle.image_files.specs.Saving.{IsDone}
 use Rattle.drive_files.specs.Inputs.{form_of, input_of}
-use Rattle.drive_files.specs.Saving.{SavesDrives}
+use Rattle.drive_files.specs.Saving.{SavesDrives, SavesNothing}
+use Rattle.drive_files.specs.Devices.{SavesPapers}
 use Rattle.drive_files.specs.declared.mounting.Places.{Places}
-use Rattle.drive_files.specs.Consoles.{is_at_wait, console_acts}
+use Rattle.drive_files.specs.Consoles.{is_at_wait, is_waiting, console_acts}
 use Rattle.drive_files.specs.declared.rounds.LastSave.{LastSave}
 use Rattle.drive_files.specs.declared.rounds.Ran.{Ran}
+use Rattle.drive_files.specs.declared.rounds.Unsaved.{Unsaved}
+use Rattle.drive_files.specs.declared.rounds.Unsaved.TheVariants.{Disk, Paper}
 use Rattle.drive_files.specs.declared.consoles.Console.{Console}
 
 -- ## When disks are saved
 
--- the files of the disks, and when they were last saved
+-- the files of disks and papers, and when they were last saved
 abbrev pub SavedPlaces : Type 0
 SavedPlaces = Places × LastSave
 
 -- no save was tried yet
 abbrev pub none_saved : LastSave
-none_saved = record { steps = 0; transfers = 0 }
+none_saved = record { steps = 0; transfers = 0; frames = 0; characters = 0 }
 
 -- A save is due after so many steps where as many as the form says were made since the last one. A transfer has ended since one was last tried, and
 -- the program waits for a key while no transfer is under way.
@@ -36,7 +38,7 @@ is_due form steps s last = nat_lt 0 form.every && nat_le form.every (steps - las
 
 -- after a save that was tried there: it counts as the last one where a file was written
 abbrev pub last_after : Result (Unit {0}) Ending → ℕ → Console → Places → SavedPlaces → LastSave
-last_after (Ok it) steps s places' kept = record { steps = if places'.saves == kept.0.saves then kept.1.steps else steps; transfers = s.transfers }
+last_after (Ok it) steps s places' kept = record kept.1 { steps = if places'.saves == kept.0.saves then kept.1.steps else steps; transfers = s.transfers }
 last_after (Err ending) steps s places' kept = kept.1
 
 -- ## Between two rounds
@@ -46,25 +48,52 @@ abbrev pub AsksForEnd : Option (String Global) → List Event → Bool → List 
 AsksForEnd None old is_asked new = (is_asked ≡ false) × (new ≡ old)
 AsksForEnd (Some name) old is_asked new = new ≡ there_call name.bytes.items is_asked ∷ old
 
-abbrev pub AsksThen : Option (String Global) → List Event → Result Bool Ending → List Event → Type 0
-AsksThen name old (Ok is_asked) new = AsksForEnd name old is_asked new
-AsksThen name old (Err ending) new = ⊥
-
 -- the disks are saved, since that is due
 pub record SavesThere (form : ConsoleForm) (steps : ℕ) (s : Console) (kept kept' : SavedPlaces) (old : List Event) (result : Result (Unit {0}) Ending) (new : List Event) : Type 0 where
   pub due : is_due form steps s kept.1 ≡ true
   pub saves : SavesDrives s.machine.disk kept.0 kept'.0 old result new
   pub last : kept'.1 ≡ last_after result steps s kept'.0 kept
 
--- A save comes first where one is due. One that fails ends the run; else it is asked for an end.
-abbrev pub DoesAfter : Option (String Global) → Result (Unit {0}) Ending → List Event → Result Bool Ending → List Event → Type 0
-DoesAfter name (Ok it) old result new = AsksThen name old result new
-DoesAfter name (Err ending) old (Ok it) new = ⊥
-DoesAfter name (Err ending) old (Err why) new = (why ≡ ending) × (new ≡ old)
+-- or nothing is asked of the host
+abbrev pub SavesIfDue : ConsoleForm → ℕ → Console → SavedPlaces → SavedPlaces → List Event → Result (Unit {0}) Ending → List Event → Type 0
+SavesIfDue form steps s kept kept' old result new = ((is_due form steps s kept.1 ≡ false) × (kept' ≡ kept) × SavesNothing old result new) ⊎ SavesThere form steps s kept kept' old result new
 
-abbrev pub DoesBetween : ConsoleForm → ℕ → Console → SavedPlaces → SavedPlaces → List Event → Result Bool Ending → List Event → Type 0
-DoesBetween form steps s kept kept' old result new = ((is_due form steps s kept.1 ≡ false) × (kept' ≡ kept) × AsksThen form.ends_with old result new)
-    ⊎ ((saved : Result (Unit {0}) Ending) × (between : List Event) × SavesThere form steps s kept kept' old saved between × DoesAfter form.ends_with saved between result new)
+-- a paper has more than was saved of it, and the program waits for a key
+abbrev pub is_grown : Console → LastSave → Bool
+is_grown s last = (not (nat_eq (length s.papers.punch.bytes) last.frames) || not (nat_eq (length s.papers.printer.bytes) last.characters)) && is_waiting s
+
+-- so much of the papers is saved then, unless that failed
+abbrev pub last_on_paper : Result (Unit {0}) Ending → Console → LastSave → LastSave
+last_on_paper (Ok it) s last = record last { frames = length s.papers.punch.bytes; characters = length s.papers.printer.bytes }
+last_on_paper (Err ending) s last = last
+
+-- the papers are saved, since one has grown
+pub record FilesThere (s : Console) (places : Places) (last last' : LastSave) (old : List Event) (result : Result (Unit {0}) Ending) (new : List Event) : Type 0 where
+  pub grown : is_grown s last ≡ true
+  pub saves : SavesPapers s.papers places.punch places.printer old result new
+  pub leaves : last' ≡ last_on_paper result s last
+
+abbrev pub FilesIfGrown : Console → Places → LastSave → LastSave → List Event → Result (Unit {0}) Ending → List Event → Type 0
+FilesIfGrown s places last last' old result new = ((is_grown s last ≡ false) × (last' ≡ last) × SavesNothing old result new) ⊎ FilesThere s places last last' old result new
+
+-- it is asked for an end, unless a paper could not be saved
+abbrev pub AsksAfter : Option (String Global) → Result (Unit {0}) Ending → List Event → Result Bool Unsaved → List Event → Type 0
+AsksAfter name (Ok it) old (Ok is_asked) new = AsksForEnd name old is_asked new
+AsksAfter name (Ok it) old (Err why) new = ⊥
+AsksAfter name (Err ending) old (Ok is_asked) new = ⊥
+AsksAfter name (Err ending) old (Err why) new = (why ≡ Paper ending) × (new ≡ old)
+
+-- the papers are saved before that, unless a disk could not be saved
+abbrev pub DoesAfter : Option (String Global) → Console → Result (Unit {0}) Ending → SavedPlaces → SavedPlaces → List Event → Result Bool Unsaved → List Event → Type 0
+DoesAfter name s (Ok it) kept kept' old result new = (filed : Result (Unit {0}) Ending) × (last : LastSave) × (between : List Event)
+    × FilesIfGrown s kept.0 kept.1 last old filed between × (kept' ≡ (kept.0, last)) × AsksAfter name filed between result new
+DoesAfter name s (Err ending) kept kept' old (Ok is_asked) new = ⊥
+DoesAfter name s (Err ending) kept kept' old (Err why) new = (why ≡ Disk ending) × (kept' ≡ kept) × (new ≡ old)
+
+-- First the disks are saved where that is due, then the papers, and then it is asked for an end. A save that fails ends the run.
+abbrev pub DoesBetween : ConsoleForm → ℕ → Console → SavedPlaces → SavedPlaces → List Event → Result Bool Unsaved → List Event → Type 0
+DoesBetween form steps s kept kept' old result new = (saved : Result (Unit {0}) Ending) × (mid : SavedPlaces) × (between : List Event)
+    × SavesIfDue form steps s kept mid old saved between × DoesAfter form.ends_with s saved mid kept' between result new
 
 -- ## The rounds
 
@@ -78,20 +107,20 @@ Rounds form first zero steps kept kept' old new = (steps ≡ 0) × (kept' ≡ ke
 Rounds form first (suc k) steps kept kept' old new = (earlier : ℕ) × (mid : SavedPlaces) × (before printed : List Event) × (looks : List (Option ℕ)) × (earlier < steps)
     × Rounds form first k earlier kept mid old before × HasPrinted before printed None × DoesBetween form steps (console_at first steps looks) mid kept' printed (Ok false) new
 
--- how much was saved where the run was broken off, since that is asked for or a save has failed
-abbrev pub IsBroken : Result Bool Ending → Result (Unit {0}) Ending → Type 0
-IsBroken (Ok is_asked) saved = (is_asked ≡ true) × IsDone saved
-IsBroken (Err ending) saved = saved ≡ Err ending
+-- what was not saved where the run was broken off, since that is asked for or a save has failed
+abbrev pub IsBroken : Result Bool Unsaved → Result (Unit {0}) Unsaved → Type 0
+IsBroken (Ok is_asked) saved = (is_asked ≡ true) × (saved ≡ Ok tt)
+IsBroken (Err why) saved = saved ≡ Err why
 
 -- what is done after the last round breaks the run off, after so many steps
 abbrev pub EndsRounds : ConsoleForm → ℕ → Console → SavedPlaces → SavedPlaces → List Event → Ran → List Event → Type 0
-EndsRounds form steps s kept kept' old ran new = (printed : List Event) × (result : Result Bool Ending)
+EndsRounds form steps s kept kept' old ran new = (printed : List Event) × (result : Result Bool Unsaved)
     × HasPrinted old printed None × DoesBetween form steps s kept kept' printed result new × IsBroken result ran.save × (ran.fault ≡ None)
 
 -- The last round. The run ends in it, after all its steps or before, or is broken off since a print failed; or it is broken off after it.
 abbrev pub EndsOrBreaks : ConsoleForm → Console → SavedPlaces → SavedPlaces → ℕ → List Event → Ran → List Event → Type 0
 EndsOrBreaks form s kept kept' most old ran new =
-    (((most ≡ unwrap_or form.steps (2 ^ 64 - 1)) ⊎ (is_some ran.fault ≡ true)) × HasPrinted old new ran.fault × IsDone ran.save × (kept' ≡ kept)) ⊎ EndsRounds form most s kept kept' old ran new
+    (((most ≡ unwrap_or form.steps (2 ^ 64 - 1)) ⊎ (is_some ran.fault ≡ true)) × HasPrinted old new ran.fault × (ran.save ≡ Ok tt) × (kept' ≡ kept)) ⊎ EndsRounds form most s kept kept' old ran new
 
 -- A run in rounds makes the steps of one that is made at once: of at most so many, or of those after which it was broken off. The reader gives its
 -- keys, and standard output is its paper.

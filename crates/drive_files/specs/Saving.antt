@@ -51,7 +51,9 @@ earlier (Err ending) later = Err ending
 
 -- the files are held at the same places
 abbrev pub ArePlaces : Places → Places → Type 0
-ArePlaces places places' = (places'.place0 ≡ places.place0) × (places'.place1 ≡ places.place1) × (places'.place2 ≡ places.place2) × (places'.place3 ≡ places.place3)
+ArePlaces places places' =
+    (places'.place0 ≡ places.place0) × (places'.place1 ≡ places.place1) × (places'.place2 ≡ places.place2) × (places'.place3 ≡ places.place3)
+    × (places'.punch ≡ places.punch) × (places'.printer ≡ places.printer)
 
 -- the drives, in rising order, each whatever became of those before it
 pub record SavesDrives (disk : DiskState) (places places' : Places) (old : List Event) (result : Result (Unit {0}) Ending) (new : List Event) : Type 0 where

@@ -1,13 +1,13 @@
-//! A whole 8/E at whose keyboard small letters may be struck as capitals.
+//! A whole 8/E at whose keyboard small letters may be struck as capitals, and what it puts on paper.
 ghost use Rattle.std.specs.Prelude.{◌≡◌};
 ghost use Rattle.drive_files.specs.Consoles as spec;
 
 use cpu8::Stepped;
-use pdp8e::Machine;
+use pdp8e::{Machine, Papers};
 use program_tasks::ConsoleForm;
 use terminal8e::{TerminalMachine, is_late, steps_before_look};
 
-/// A machine, and whether small letters are struck as capitals at its keyboard.
+/// A machine, whether small letters are struck as capitals at its keyboard, and the papers of its punch and its line printer.
 #[derive(Drop)]
 pub struct Console {
     pub machine: Machine,
@@ -15,25 +15,36 @@ pub struct Console {
 
     /// How many steps, modulo 2^64, found a transfer of the disk under way and left none.
     pub transfers: u64,
+
+    /// What its steps punched, and printed on the line printer.
+    pub papers: Papers,
 }
 
-/// A machine at the console, before its first step.
-pub fn console_with(form: &ConsoleForm, machine: Machine) -> Console
-    ensures { result ≡ spec.console_with form.now machine }
+/// A machine at the console, before its first step, with these papers.
+pub fn console_with(form: &ConsoleForm, machine: Machine, papers: Papers) -> Console
+    ensures { result ≡ spec.console_with form.now machine papers }
 {
     Console {
         machine,
         has_capitals: form.has_capitals,
         transfers: 0,
+        papers,
     }
 }
 
 impl Console {
+    /// Whether its program waits for a key.
+    pub(crate) fn is_waiting(&self) -> bool
+        ensures { result ≡ spec.is_waiting self.now }
+    {
+        self.machine.asks_for_key(0)
+    }
+
     /// Whether its program waits for a key, and no transfer is under way.
     pub(crate) fn is_at_wait(&self) -> bool
         ensures { result ≡ spec.is_at_wait self.now }
     {
-        self.machine.asks_for_key(0) && !self.machine.disk().is_busy()
+        self.is_waiting() && !self.machine.disk().is_busy()
     }
 }
 
@@ -66,6 +77,7 @@ impl TerminalMachine for Console {
         if was_busy && !self.machine.disk().is_busy() {
             self.transfers = self.transfers.wrapping_add(1);
         }
+        self.papers.put(&self.machine);
         did
     }
 

@@ -1,5 +1,5 @@
-//! The run of a machine with disks at the console, in rounds. Between two of them the disks are saved, and an end may be asked for.
-ghost use Rattle.std.specs.Prelude.{◌≡◌, ℕ, None, Some, true, is_some, Option, List, IfErr};
+//! The run of a machine with disks at the console, in rounds. Between two of them disks and papers are saved, and an end may be asked for.
+ghost use Rattle.std.specs.Prelude.{◌≡◌, ℕ, None, Some, true, is_some, Ok, Option, List, IfErr};
 ghost use Rattle.byte_reader.specs.Readings.{reading};
 ghost use Rattle.terminal8e.specs.AnyRun.{RunsProgram};
 ghost use Rattle.terminal8e.specs.Parts.{ComesTo, HasCome, IsPause, IsWithin};
@@ -7,13 +7,13 @@ ghost use Rattle.terminal8.specs.declared.keyboards.Form.{Form};
 ghost use Rattle.terminal8.specs.declared.outcomes.TerminalFault.TheVariants as terminal;
 ghost use Rattle.hosts.specs.Streams.{output_text};
 ghost use Rattle.host_output.specs.Printing.{HasPrinted};
-ghost use Rattle.image_files.specs.Saving.{IsDone};
-ghost use Rattle.drive_files.specs.Rounds.{AsksForEnd, DoesBetween, RunsRounds, last_after};
+ghost use Rattle.drive_files.specs.Rounds.{AsksForEnd, DoesBetween, FilesIfGrown, RunsRounds, SavesIfDue, last_after};
 ghost use Rattle.drive_files.specs.Saving.{SavesDrives};
 ghost use Rattle.drive_files.specs.Rounds as spec;
 ghost use Rattle.drive_files.specs.Consoles.{console_acts};
 
 use crate::consoles::Console;
+use crate::devices::save_papers;
 use crate::inputs::{form_of, input_of};
 use crate::mounting::Places;
 use crate::saving::save_drives;
@@ -37,11 +37,20 @@ pub struct Ran {
     pub fault: Option<PrintFault>,
     pub answer: Result<Ended, TerminalFault>,
 
-    /// Why a disk could not be saved in the run, which then ended there.
-    pub save: Result<(), Ending>,
+    /// What could not be saved in the run, which then ended there.
+    pub save: Result<(), Unsaved>,
 }
 
-/// When the disks were last saved.
+/// What could not be saved, and how the command ends by that.
+#[derive(Drop)]
+pub enum Unsaved {
+    Disk(Ending),
+
+    /// What was punched, or printed on the line printer.
+    Paper(Ending),
+}
+
+/// When the disks were last saved, and how much of the papers was.
 #[derive(Clone, Copy)]
 pub(crate) struct LastSave {
     /// The steps that were made by then.
@@ -49,10 +58,15 @@ pub(crate) struct LastSave {
 
     /// The transfers of the disk that had ended when a save was last tried.
     pub(crate) transfers: u64,
+
+    /// The frames that were punched by then, and the characters that were printed on the line printer.
+    pub(crate) frames: usize,
+    pub(crate) characters: usize,
 }
 
 /// Runs a machine, whose paper is standard output. Disks that were written are saved while its program waits for a key, once so many
-/// instructions were made since the last save as the form says. Where a save fails, or an end is asked for, the run is broken off.
+/// instructions were made since the last save as the form says. The files of punch and line printer get what was put on paper before a key is
+/// waited for. Where a save fails, or an end is asked for, the run is broken off.
 pub fn run_rounds<H: Host, I: ByteReader>(
     host: H,
     alloc: Global,
@@ -70,6 +84,8 @@ pub fn run_rounds<H: Host, I: ByteReader>(
     let mut last = LastSave {
         steps: 0,
         transfers: 0,
+        frames: 0,
+        characters: 0,
     };
     let mut host = host;
     loop {
@@ -96,7 +112,7 @@ pub fn run_rounds<H: Host, I: ByteReader>(
         match pause(&mut host, alloc, form, steps, console, places, &mut last) {
             Ok(false) => {}
             Ok(true) => return (host, break_run(&sitting, console, None, Ok(()))),
-            Err(ending) => return (host, break_run(&sitting, console, None, Err(ending))),
+            Err(unsaved) => return (host, break_run(&sitting, console, None, Err(unsaved))),
         }
     }
 }
@@ -105,7 +121,7 @@ pub fn run_rounds<H: Host, I: ByteReader>(
 fn end_in_round(fault: Option<PrintFault>, answer: Result<Ended, TerminalFault>) -> Ran
     ensures fault { result.fault ≡ fault }
     ensures answer { result.answer ≡ answer }
-    ensures save { IsDone result.save }
+    ensures save { result.save ≡ Ok tt }
 {
     Ran {
         fault,
@@ -119,7 +135,7 @@ fn break_run(
     sitting: &Sitting,
     console: &Console,
     fault: Option<PrintFault>,
-    save: Result<(), Ending>,
+    save: Result<(), Unsaved>,
 ) -> Ran
     ensures runs { (first : Console) (keyed : Form) (before left written contents : Option (List ℕ))
         → HasCome console_acts keyed sitting.now.operator.input first console.now sitting.now before left written contents
@@ -135,10 +151,10 @@ fn break_run(
     }
 }
 
-/// After how many steps the next look for a key ends a round. It is at once where an end may be asked for, since no key may come for long. Else
-/// it is where a save may be due, or never.
+/// After how many steps the next look for a key ends a round. It is at once where an end may be asked for, since no key may come for long, and
+/// where a file gets what is put on paper. Else it is where a save may be due, or never.
 fn soonest_pause(form: &ConsoleForm, saved: u64) -> u64 {
-    if form.ends_with.is_some() {
+    if form.ends_with.is_some() || form.devices.punch.is_some() || form.devices.printer.is_some() {
         return 0;
     }
     if form.every == 0 || form.disk.is_look {
@@ -173,7 +189,8 @@ fn make_round<H: Host, I: ByteReader, B: Before>(
     (host, fault, part)
 }
 
-/// What is done between two rounds: the disks are saved where that is due, and then it is asked whether the run is to end.
+/// What is done between two rounds. The disks are saved where that is due, and the papers where they have grown. Then it is asked whether the run
+/// is to end.
 fn pause<H: Host>(
     host: &mut H,
     alloc: Global,
@@ -182,17 +199,72 @@ fn pause<H: Host>(
     console: &mut Console,
     places: &mut Places,
     last: &mut LastSave,
-) -> Result<bool, Ending>
+) -> Result<bool, Unsaved>
     ensures does { DoesBetween form.now steps console.old (places.old, last.old) (places.new, last.new) (H.history host.old) result (H.history host.new) }
     ensures console { console.new ≡ console.old }
 {
-    if !is_due(form, steps, console, last) {
-        return Ok(asks_for_end(host, &form.ends_with));
+    match save_if_due(host, alloc, form, steps, console, places, last) {
+        Ok(()) => match file_if_grown(host, alloc, console, places, last) {
+            Ok(()) => Ok(asks_for_end(host, &form.ends_with)),
+            Err(ending) => Err(Unsaved::Paper(ending)),
+        },
+        Err(ending) => Err(Unsaved::Disk(ending)),
     }
-    match save_there(host, alloc, steps, console, places, last) {
-        Ok(()) => Ok(asks_for_end(host, &form.ends_with)),
+}
+
+/// Saves the disks where that is due after so many steps.
+fn save_if_due<H: Host>(
+    host: &mut H,
+    alloc: Global,
+    form: &ConsoleForm,
+    steps: u64,
+    console: &mut Console,
+    places: &mut Places,
+    last: &mut LastSave,
+) -> Result<(), Ending>
+    ensures saves { SavesIfDue form.now steps console.old (places.old, last.old) (places.new, last.new) (H.history host.old) result (H.history host.new) }
+    ensures console { console.new ≡ console.old }
+{
+    if !is_due(form, steps, console, last) {
+        return Ok(());
+    }
+    save_there(host, alloc, steps, console, places, last)
+}
+
+/// Has the files of punch and line printer hold what was put on paper, where that is more than they hold, and the program waits for a key.
+fn file_if_grown<H: Host>(
+    host: &mut H,
+    alloc: Global,
+    console: &Console,
+    places: &Places,
+    last: &mut LastSave,
+) -> Result<(), Ending>
+    ensures { FilesIfGrown console.now places.now last.old last.new (H.history host.old) result (H.history host.new) }
+{
+    if !is_grown(console, last) {
+        return Ok(());
+    }
+    match save_papers(host, alloc, &console.papers, &places.punch, &places.printer) {
+        Ok(()) => {
+            *last = LastSave {
+                steps: last.steps,
+                transfers: last.transfers,
+                frames: console.papers.punch.bytes().len(),
+                characters: console.papers.printer.bytes().len(),
+            };
+            Ok(())
+        }
         Err(ending) => Err(ending),
     }
+}
+
+/// Whether the program waits for a key, and a paper has more than was saved of it.
+fn is_grown(console: &Console, last: &LastSave) -> bool
+    ensures { result ≡ spec.is_grown console.now last.now }
+{
+    let papers = &console.papers;
+    (papers.punch.bytes().len() != last.frames || papers.printer.bytes().len() != last.characters)
+        && console.is_waiting()
 }
 
 /// Saves the disks after so many steps. It counts as the last save where a file was written, and as the last one that was tried where none failed.
@@ -218,6 +290,8 @@ fn save_there<H: Host>(
                     steps
                 },
                 transfers: console.transfers,
+                frames: last.frames,
+                characters: last.characters,
             };
             Ok(())
         }

@@ -78,6 +78,8 @@ unasked_steps stays looks m sees count most within all unasked =
       processor = unasked;
       passes = after_lasting stays looks m count sees lasts unasked none;
       answers = answers_lasting stays looks m count sees lasts unasked none;
+      punch = λ some. all.devices.punch;
+      printer = λ some. all.devices.printer;
     }
 
 -- the state after them, where the machine is another's by its parts
@@ -112,6 +114,8 @@ none_unasked looks m = record {
   passes = λ k within. let e : k ≡ 0 = omega (arith, within) in
       subst (λ n. after n m ≡ after_time n m (CpuRuns.after n m.processor)) (sym e) (sym (after_none m) ∙ passed_none m);
   answers = λ k below. absurd (omega (arith, below));
+  punch = λ some. absurd (omega (arith, some));
+  printer = λ some. absurd (omega (arith, some));
 }
 
 -- ## At a terminal

@@ -42,8 +42,10 @@ after_time count m processor = record {
 }
 
 -- In so many steps that are quickly made the program waits for no key nor, if looks count, looks for one. They are instructions of the processor alone, which pass for what is
--- under way, and end nothing.
+-- under way, and end nothing. Neither the punch nor the line printer writes.
 pub record AreUnasked (looks : Bool) (m : Pdp8e) (count : ℕ) : Type 0 where
   pub processor : Cpu.AreUnasked looks m.processor count
   pub passes : (k : ℕ) → k ≤ count → after k m ≡ after_time k m (CpuRuns.after k m.processor)
   pub answers : (k : ℕ) → k < count → (printing_step (after k m)).1 ≡ Ran None
+  pub punch : 0 < count → m.devices.punch.writing ≡ None
+  pub printer : 0 < count → m.devices.printer.writing ≡ None

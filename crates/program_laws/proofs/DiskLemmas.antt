@@ -1,5 +1,5 @@
--- When disks are saved.
-use Rattle.std.proofs.Common.{◌≡◌, ◌≢◌, ◌∙◌, ◌&&◌, ◌-◌, ℕ, Bool, true, false, true≢false, not, nat_eq, nat_le, nat_lt, Option, None, Some, String, Result, Ok, Err, List, sym, ap, inl, inr, eq-eqb}
+-- When disks and papers are saved.
+use Rattle.std.proofs.Common.{◌≡◌, ◌≢◌, ◌⊎◌, ◌∙◌, ◌&&◌, ◌||◌, ◌-◌, ℕ, Bool, true, false, true≢false, not, nat_eq, nat_le, nat_lt, Option, None, Some, String, Result, Ok, Err, List, length, refl, sym, subst, ap, inl, inr, eq-eqb}
 use Rattle.std.proofs.lemmas.Bool.{and_parts, leb-true, ltb-true, not-true}
 use Rattle.std.specs.Global.{Global}
 use Rattle.hosts.specs.Event.{Event}
@@ -7,14 +7,15 @@ use Rattle.hosts.specs.Streams.{changes_at}
 use Rattle.outcome.specs.declared.endings.Ending.{Ending}
 use Rattle.program_tasks.specs.declared.boots.ConsoleForm.{ConsoleForm}
 use Rattle.image_files.specs.Laws.{ChangesNothing}
-use Rattle.image_files.specs.Saving.{IsDone}
-use Rattle.drive_files.specs.Consoles.{is_at_wait}
-use Rattle.drive_files.specs.Rounds.{AsksThen, DoesBetween, SavedPlaces, is_due}
+use Rattle.drive_files.specs.Consoles.{is_at_wait, is_waiting}
+use Rattle.drive_files.specs.Rounds.{AsksAfter, AsksForEnd, DoesAfter, DoesBetween, FilesIfGrown, SavedPlaces, SavesIfDue, is_due, is_grown, last_after}
+use Rattle.drive_files.specs.declared.rounds.Unsaved.{Unsaved}
+use Rattle.drive_files.specs.declared.rounds.Unsaved.TheVariants.{Disk, Paper}
 use Rattle.drive_files.specs.Saving.{SavesDrives}
 use Rattle.drive_files.specs.declared.consoles.Console.{Console}
 use Rattle.drive_files.specs.declared.mounting.Places.{Places}
 use Rattle.run_commands.specs.Runs8e.{SavesRest}
-use Rattle.program_laws.specs.Disks.{IsDue, TriesToSave}
+use Rattle.program_laws.specs.Disks.{IsDue, IsGrown, NoDiskFailed, NoPaperFailed, TriesToFile, TriesToSave}
 
 apart : (a b : ℕ) → not (nat_eq a b) ≡ true → a ≢ b
 apart a b is same = true≢false (sym (eq-eqb a b same) ∙ not-true (nat_eq a b) is)
@@ -26,22 +27,81 @@ due form steps s kept is =
     let one = and_parts (nat_lt 0 form.every) (nat_le form.every (steps - kept.1.steps)) two.0 in
     record { asked = ltb-true 0 form.every one.0; since = leb-true form.every (steps - kept.1.steps) one.1; changed = apart s.transfers kept.1.transfers two.1; waits = three.1 }
 
-pub saved-then : (form : ConsoleForm) (steps : ℕ) (s : Console) (kept after : SavedPlaces) (old : List Event) (result : Result Bool Ending) (new : List Event) → DoesBetween form steps s kept after old result new
+pub grown : (s : Console) (kept : SavedPlaces) → is_grown s kept.1 ≡ true → IsGrown s kept
+grown s kept is =
+    let two = and_parts (not (nat_eq (length s.papers.punch.bytes) kept.1.frames) || not (nat_eq (length s.papers.printer.bytes) kept.1.characters)) (is_waiting s) is in
+    record { grown = either-apart (length s.papers.punch.bytes) kept.1.frames (length s.papers.printer.bytes) kept.1.characters two.0; waits = two.1 }
+  where
+    one-apart : (a b : Bool) (A B : Type 0) → (a ≡ true → A) → (b ≡ true → B) → (a || b) ≡ true → A ⊎ B
+    one-apart true b A B first second is = inl (first is)
+    one-apart false b A B first second is = inr (second is)
+
+    either-apart : (a b c d : ℕ) → (not (nat_eq a b) || not (nat_eq c d)) ≡ true → (a ≢ b) ⊎ (c ≢ d)
+    either-apart a b c d is = one-apart (not (nat_eq a b)) (not (nat_eq c d)) (a ≢ b) (c ≢ d) (apart a b) (apart c d) is
+
+after-then : (name : Option (String Global)) (s : Console) (saved : Result (Unit {0}) Ending) (kept after : SavedPlaces) (old : List Event) (result : Result Bool Unsaved) (new : List Event)
+    → DoesAfter name s saved kept after old result new → after.0 ≡ kept.0
+after-then name s (Ok it) kept after old result new (filed, last, between, files, is, asks) = ap (λ (k : SavedPlaces). k.0) is
+after-then name s (Err ending) kept after old (Ok is_asked) new p = absurd p
+after-then name s (Err ending) kept after old (Err why) new (is, same, p) = ap (λ (k : SavedPlaces). k.0) same
+
+pub saved-then : (form : ConsoleForm) (steps : ℕ) (s : Console) (kept after : SavedPlaces) (old : List Event) (result : Result Bool Unsaved) (new : List Event) → DoesBetween form steps s kept after old result new
     → is_due form steps s kept.1 ≡ true → TriesToSave s kept.0 after.0 old
-saved-then form steps s kept after old result new (inl p) is = absurd (true≢false (sym is ∙ p.0))
-saved-then form steps s kept after old result new (inr (saved, between, saves, next)) is = (saved, between, saves.saves)
+saved-then form steps s kept after old result new (saved, mid, between, inl (idle, same, p), next) is = absurd (true≢false (sym is ∙ idle))
+saved-then form steps s kept after old result new (saved, mid, between, inr there, next) is =
+    (saved, between, subst (λ (p : Places). SavesDrives s.machine.disk kept.0 p old saved between) (sym (after-then form.ends_with s saved mid after between result new next)) there.saves)
 
-asks-keep : (name : Option (String Global)) (old : List Event) (result : Result Bool Ending) (new : List Event) → AsksThen name old result new → ChangesNothing old new
-asks-keep None old (Ok is) new p path = ap (λ (n : List Event). changes_at path n) p.1
-asks-keep (Some name) old (Ok is) new p path = ap (λ (n : List Event). changes_at path n) p
-asks-keep name old (Err ending) new p path = absurd p
+asks-keep : (name : Option (String Global)) (old : List Event) (is_asked : Bool) (new : List Event) → AsksForEnd name old is_asked new → ChangesNothing old new
+asks-keep None old is_asked new p path = ap (λ (n : List Event). changes_at path n) p.1
+asks-keep (Some name) old is_asked new p path = ap (λ (n : List Event). changes_at path n) p
 
-pub idle-then : (form : ConsoleForm) (steps : ℕ) (s : Console) (kept after : SavedPlaces) (old : List Event) (result : Result Bool Ending) (new : List Event) → DoesBetween form steps s kept after old result new
-    → is_due form steps s kept.1 ≡ false → ChangesNothing old new
-idle-then form steps s kept after old result new (inl p) is = asks-keep form.ends_with old result new p.2
-idle-then form steps s kept after old result new (inr (saved, between, saves, next)) is = absurd (true≢false (sym saves.due ∙ is))
+asks-after-keep : (name : Option (String Global)) (filed : Result (Unit {0}) Ending) (old : List Event) (result : Result Bool Unsaved) (new : List Event) → AsksAfter name filed old result new → ChangesNothing old new
+asks-after-keep name (Ok it) old (Ok is_asked) new p path = asks-keep name old is_asked new p path
+asks-after-keep name (Ok it) old (Err why) new p path = absurd p
+asks-after-keep name (Err ending) old (Ok is_asked) new p path = absurd p
+asks-after-keep name (Err ending) old (Err why) new p path = ap (λ (n : List Event). changes_at path n) p.1
 
-pub saved-rest : (s : Console) (places after : Places) (before : Result (Unit {0}) Ending) (old : List Event) (result : Result (Unit {0}) Ending) (new : List Event) → SavesRest s places after before old result new → IsDone before
-    → SavesDrives s.machine.disk places after old result new
-saved-rest s places after (Ok it) old result new p done = p
-saved-rest s places after (Err ending) old result new p done = absurd done
+files-then : (name : Option (String Global)) (s : Console) (places : Places) (last last' : _) (filed : Result (Unit {0}) Ending) (old between : List Event) (result : Result Bool Unsaved) (new : List Event)
+    → is_grown s last ≡ false → FilesIfGrown s places last last' old filed between → AsksAfter name filed between result new → ChangesNothing old new
+files-then name s places last last' filed old between result new idle (inl (still, is, p)) asks path =
+    asks-after-keep name filed between result new asks path ∙ ap (λ (n : List Event). changes_at path n) p.1
+files-then name s places last last' filed old between result new idle (inr there) asks path = absurd (true≢false (sym there.grown ∙ idle))
+
+pub idle-then : (form : ConsoleForm) (steps : ℕ) (s : Console) (kept after : SavedPlaces) (old : List Event) (result : Result Bool Unsaved) (new : List Event) → DoesBetween form steps s kept after old result new
+    → is_due form steps s kept.1 ≡ false → is_grown s kept.1 ≡ false → ChangesNothing old new
+idle-then form steps s kept after old result new (Ok it, mid, between, inl (idle, same, p), (filed, last, written, files, is, asks)) due-not none path =
+    files-then form.ends_with s mid.0 mid.1 last filed between written result new (ap (λ (k : SavedPlaces). is_grown s k.1) same ∙ none) files asks path ∙ ap (λ (n : List Event). changes_at path n) p.1
+idle-then form steps s kept after old result new (Err ending, mid, between, inl (idle, same, p), next) due-not none path = absurd p.0
+idle-then form steps s kept after old result new (saved, mid, between, inr there, next) due-not none path = absurd (true≢false (sym there.due ∙ due-not))
+
+-- a save of the disks leaves what is known of the papers
+last-same : (saved : Result (Unit {0}) Ending) (steps : ℕ) (s : Console) (places : Places) (kept : SavedPlaces) → is_grown s (last_after saved steps s places kept) ≡ is_grown s kept.1
+last-same (Ok it) steps s places kept = refl
+last-same (Err ending) steps s places kept = refl
+
+due-same : (form : ConsoleForm) (steps : ℕ) (s : Console) (kept mid : SavedPlaces) (old : List Event) (saved : Result (Unit {0}) Ending) (between : List Event) → SavesIfDue form steps s kept mid old saved between
+    → is_grown s mid.1 ≡ is_grown s kept.1
+due-same form steps s kept mid old saved between (inl (idle, same, p)) = ap (λ (k : SavedPlaces). is_grown s k.1) same
+due-same form steps s kept mid old saved between (inr there) = ap (λ l. is_grown s l) there.last ∙ last-same saved steps s mid.0 kept
+
+filed-then : (s : Console) (places : Places) (last last' : _) (filed : Result (Unit {0}) Ending) (old between : List Event) → is_grown s last ≡ true → FilesIfGrown s places last last' old filed between → TriesToFile s places
+filed-then s places last last' filed old between is (inl (idle, same, p)) = absurd (true≢false (sym is ∙ idle))
+filed-then s places last last' filed old between is (inr there) = (filed, old, between, there.saves)
+
+pub grown-then : (form : ConsoleForm) (steps : ℕ) (s : Console) (kept after : SavedPlaces) (old : List Event) (is_asked : Bool) (new : List Event) → DoesBetween form steps s kept after old (Ok is_asked) new
+    → is_grown s kept.1 ≡ true → TriesToFile s after.0
+grown-then form steps s kept after old is_asked new (Ok it, mid, between, saves, (filed, last, written, files, is, asks)) more =
+    subst (λ (p : Places). TriesToFile s p) (sym (ap (λ (k : SavedPlaces). k.0) is)) (filed-then s mid.0 mid.1 last filed between written (due-same form steps s kept mid old (Ok it) between saves ∙ more) files)
+grown-then form steps s kept after old is_asked new (Err ending, mid, between, saves, next) more = absurd next
+
+pub saved-rest : (s : Console) (places after : Places) (before : Result (Unit {0}) Unsaved) (old : List Event) (result : Result (Unit {0}) Ending) (new : List Event) → SavesRest s places after before old result new → NoDiskFailed before
+    → TriesToSave s places after old
+saved-rest s places after (Ok it) old result new p done = (p.saved, p.between, p.disks)
+saved-rest s places after (Err (Disk ending)) old result new p done = absurd done
+saved-rest s places after (Err (Paper ending)) old result new (saved, disks, is) done = (saved, new, disks)
+
+pub filed-rest : (s : Console) (places after : Places) (before : Result (Unit {0}) Unsaved) (old : List Event) (result : Result (Unit {0}) Ending) (new : List Event) → SavesRest s places after before old result new → NoPaperFailed before
+    → TriesToFile s places
+filed-rest s places after (Ok it) old result new p done = (p.filed, p.between, new, p.papers)
+filed-rest s places after (Err (Disk ending)) old result new (filed, papers, is, same) done = (filed, old, new, papers)
+filed-rest s places after (Err (Paper ending)) old result new p done = absurd done

@@ -74,7 +74,7 @@ use Rattle.script_commands.specs.Scripts.{OpensFor, RunsOver, RunsScript}
 use Rattle.run_commands.specs.Profiles.{ProfilesTape}
 use Rattle.run_commands.specs.Boots.{BootsDisk}
 use Rattle.drive_files.specs.Opening.{are_saved}
-use Rattle.run_commands.specs.Devices8e.{has_papers}
+use Rattle.drive_files.specs.Devices.{has_papers}
 use Rattle.run_commands.specs.Teletypes.{RunsTeletype}
 use Rattle.run_commands.specs.Traces.{TracesTape}
 use Rattle.image_files.specs.Waiting.{AreBusy, TellsBusy, Within}
@@ -229,22 +229,26 @@ module _
     neither-papers true b is = absurd (true≢false is)
     neither-papers false b is = (refl, is)
 
-    pub does-keep : (it : Task) (is_typed : Bool) (input : Reading) → ((form : TeletypeForm) → are_saved form.console.disk ≡ false → KeepsFiles (RunsTeletype form input))
+    pub does-keep : (it : Task) (is_typed : Bool) (input : Reading) → ((form : TeletypeForm) → are_saved form.console.disk ≡ false → has_papers form.console.devices ≡ false → KeepsFiles (RunsTeletype form input))
         → ((named : ImageForm) (form : RunForm) → form.saving ≡ Never → KeepsFiles (RunsScript named form is_typed input))
-        → ((form : ConsoleForm) → are_saved form.disk ≡ false → KeepsFiles (BootsDisk form input))
+        → ((form : ConsoleForm) → are_saved form.disk ≡ false → has_papers form.devices ≡ false → KeepsFiles (BootsDisk form input))
         → may_change it ≡ false → KeepsFiles (DoesTask it is_typed input)
     does-keep (task.Tape tape) is_typed input keys script boots quiet = tapes tape
     does-keep (task.Rim tape form) is_typed input keys script boots quiet = rims form tape
     does-keep (task.Source form) is_typed input keys script boots quiet = sources form
     does-keep (task.Assemble form) is_typed input keys script boots quiet = within-keeps (seconds_for form.from) (file_for form.from) (Assembles form) (assembled form quiet)
-    does-keep (task.Teletype form) is_typed input keys script boots quiet = keys form quiet
+    does-keep (task.Teletype form) is_typed input keys script boots quiet =
+        let two = neither-papers (are_saved form.console.disk) (has_papers form.console.devices) quiet in
+        keys form two.0 two.1
     does-keep (task.Trace form) is_typed input keys script boots quiet =
         let two = neither-papers (are_saved form.disk) (has_papers form.devices) quiet in
         traces form two.0 two.1
     does-keep (task.Profile form) is_typed input keys script boots quiet =
         let two = neither-papers (are_saved form.disk) (has_papers form.devices) quiet in
         profiles form two.0 two.1
-    does-keep (task.Boot form) is_typed input keys script boots quiet = boots form quiet
+    does-keep (task.Boot form) is_typed input keys script boots quiet =
+        let two = neither-papers (are_saved form.disk) (has_papers form.devices) quiet in
+        boots form two.0 two.1
     does-keep (task.Create form blocks) is_typed input keys script boots quiet = absurd (true≢false quiet)
     does-keep (task.CreateTape form) is_typed input keys script boots quiet = absurd (true≢false quiet)
     does-keep (task.CreateDisk form) is_typed input keys script boots quiet = absurd (true≢false quiet)

@@ -1,5 +1,5 @@
--- When the disks of a run are saved, and what is printed where one is refused, or not saved.
-use Rattle.std.specs.Prelude.{◌≡◌, ◌≢◌, ◌⊎◌, ◌<◌, ◌≤◌, ◌-◌, ◌∷◌, ◌++◌, [], ℕ, Bool, true, Result, Err, List}
+-- When the disks and papers of a run are saved, and what is printed where a disk is refused, or not saved.
+use Rattle.std.specs.Prelude.{◌≡◌, ◌≢◌, ◌⊎◌, ◌<◌, ◌≤◌, ◌-◌, ◌∷◌, ◌++◌, [], ℕ, Bool, true, Result, Ok, Err, List, length}
 use Rattle.hosts.specs.Event.{Event}
 use Rattle.program_reports.specs.Program.{drive_text, refusal_of_drive}
 use Rattle.program_reports.specs.declared.drives.DriveRefusal.{DriveRefusal}
@@ -8,11 +8,14 @@ use Rattle.outcome.specs.Outcomes.{outcome_of, refusal}
 use Rattle.outcome.specs.declared.endings.Ending.{Ending}
 use Rattle.outcome.specs.declared.endings.Ending.TheVariants.{Fault}
 use Rattle.program_tasks.specs.declared.boots.ConsoleForm.{ConsoleForm}
-use Rattle.drive_files.specs.Consoles.{is_at_wait}
+use Rattle.drive_files.specs.Consoles.{is_at_wait, is_waiting}
+use Rattle.drive_files.specs.Devices.{SavesPapers}
 use Rattle.drive_files.specs.Rounds.{SavedPlaces}
 use Rattle.drive_files.specs.Saving.{SavesDrives}
 use Rattle.drive_files.specs.declared.consoles.Console.{Console}
 use Rattle.drive_files.specs.declared.mounting.Places.{Places}
+use Rattle.drive_files.specs.declared.rounds.Unsaved.{Unsaved}
+use Rattle.drive_files.specs.declared.rounds.Unsaved.TheVariants.{Disk, Paper}
 
 -- A save is due after so many steps: as many as were asked for were made since the last one, and a transfer has ended since. The program waits for a
 -- key, and no transfer is under way.
@@ -25,6 +28,26 @@ pub record IsDue (form : ConsoleForm) (steps : ℕ) (s : Console) (kept : SavedP
 -- the disks were saved, or a save of one failed
 abbrev pub TriesToSave : Console → Places → Places → List Event → Type 0
 TriesToSave s places after old = (saved : Result (Unit {0}) Ending) × (new : List Event) × SavesDrives s.machine.disk places after old saved new
+
+-- a disk, and a paper, that could not be saved in a run is none
+abbrev pub NoDiskFailed : Result (Unit {0}) Unsaved → Type 0
+NoDiskFailed (Ok it) = Unit {0}
+NoDiskFailed (Err (Disk ending)) = ⊥
+NoDiskFailed (Err (Paper ending)) = Unit {0}
+
+abbrev pub NoPaperFailed : Result (Unit {0}) Unsaved → Type 0
+NoPaperFailed (Ok it) = Unit {0}
+NoPaperFailed (Err (Disk ending)) = Unit {0}
+NoPaperFailed (Err (Paper ending)) = ⊥
+
+-- a paper has more than was saved of it, or less, and the program waits for a key
+pub record IsGrown (s : Console) (kept : SavedPlaces) : Type 0 where
+  pub grown : (length s.papers.punch.bytes ≢ kept.1.frames) ⊎ (length s.papers.printer.bytes ≢ kept.1.characters)
+  pub waits : is_waiting s ≡ true
+
+-- the papers were saved, or a save of one failed
+abbrev pub TriesToFile : Console → Places → Type 0
+TriesToFile s places = (filed : Result (Unit {0}) Ending) × (old new : List Event) × SavesPapers s.papers places.punch places.printer old filed new
 
 -- the line of a command that ends so is a refusal, with the drive after it if that isn't 0; or memory is wanted
 abbrev pub NamesDrive : ℕ → Ending → Type 0

@@ -1,7 +1,7 @@
 -- Which tasks may change a file of the host.
 use Rattle.std.specs.Prelude.{Bool, true, false, ◌||◌, is_some}
 use Rattle.drive_files.specs.Opening.{are_saved}
-use Rattle.run_commands.specs.Devices8e.{has_papers}
+use Rattle.drive_files.specs.Devices.{has_papers}
 use Rattle.program_tasks.specs.declared.tasks.AssembleForm.{AssembleForm}
 use Rattle.program_tasks.specs.declared.tasks.Saving.{Saving}
 use Rattle.program_tasks.specs.declared.tasks.Saving.TheVariants.{AtEnd, Never, Always}
@@ -48,7 +48,7 @@ may_change (task.Index form) = false
 may_change (task.Rescue form) = true
 may_change (task.Scan form) = is_some form.into
 may_change (task.Assemble form) = has_output form
-may_change (task.Teletype form) = are_saved form.console.disk
+may_change (task.Teletype form) = are_saved form.console.disk || has_papers form.console.devices
 may_change (task.Trace form) = are_saved form.disk || has_papers form.devices
 may_change (task.Profile form) = are_saved form.disk || has_papers form.devices
-may_change (task.Boot form) = are_saved form.disk
+may_change (task.Boot form) = are_saved form.disk || has_papers form.devices

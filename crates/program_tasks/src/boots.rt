@@ -1,4 +1,5 @@
 //! What is asked of an 8/E with disks, and of its run at the console.
+use crate::devices::DeviceForm;
 use word12::Word;
 
 /// What is in a drive, and whether an operator has locked it.
@@ -36,6 +37,9 @@ pub struct DiskForm {
 #[derive(Drop)]
 pub struct ConsoleForm {
     pub disk: DiskForm,
+
+    /// What else it has.
+    pub devices: DeviceForm,
 
     /// What the switches are set to, if it is given.
     pub switches: Option<Word>,

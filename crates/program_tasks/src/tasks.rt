@@ -119,7 +119,7 @@ pub struct TeletypeForm {
     /// The cell at which the processor starts, if one is given.
     pub start: Option<Cell>,
 
-    /// How it runs there. An 8/I has no disk.
+    /// How it runs there. An 8/I has no disk or other device.
     pub console: ConsoleForm,
 }
 

@@ -1,6 +1,6 @@
 -- The commands on machines change no file, but for those of drives that are to be saved, and of punch and line printer.
-use Rattle.std.proofs.Common.{◌≡◌, ◌∙◌, ℕ, Bool, true, false, true≢false, ◌||◌, is_some, nat_eq, unwrap_or, Option, None, Some, String, Result, Ok, Err, List, ap, refl, inl, inr}
-use Rattle.std.specs.Global.{Global, Vec}
+use Rattle.std.proofs.Common.{◌≡◌, ◌∙◌, ℕ, Bool, true, false, nat_eq, unwrap_or, Option, None, Some, Result, Ok, Err, List, ap, inl, inr}
+use Rattle.std.specs.Global.{Vec}
 use Rattle.bin_tape.specs.Items.{Item, words_of}
 use Rattle.bin_tape.specs.Tape.{IsTape}
 use Rattle.byte_reader.specs.Readings.{Reading}
@@ -13,7 +13,7 @@ use Rattle.terminal8.specs.declared.outcomes.TerminalFault.{TerminalFault}
 use Rattle.trace8.specs.declared.faults.TraceFault.{TraceFault}
 use Rattle.trace8.specs.declared.faults.TraceFault.TheVariants as trace
 use Rattle.cpu8.specs.State.{next_cell}
-use Rattle.pdp8e.specs.Papers.{PaperState, PapersState}
+use Rattle.pdp8e.specs.Papers.{PapersState}
 use Rattle.program_reports.specs.Program.{program_line}
 use Rattle.tape_reports.specs.Starts.{first_cell, gives_word, start_cell}
 use Rattle.program_reports.specs.declared.programs.ProgramLine.TheVariants.{Start}
@@ -33,22 +33,22 @@ use Rattle.outcome.specs.declared.endings.Ending.{Ending}
 use Rattle.outcome.specs.declared.notes.PlainNote.{PlainNote}
 use Rattle.image_files.specs.Answers.{AreLines}
 use Rattle.image_files.specs.Laws.{KeepsFiles}
-use Rattle.image_files.proofs.KeepLemmas.{looks-keeps, purely-keeps, same, then-keeps}
+use Rattle.image_files.proofs.KeepLemmas.{purely-keeps, same, then-keeps}
 use Rattle.image_files.specs.Notes.{Tells}
-use Rattle.image_files.specs.Reading.{Looks}
 use Rattle.image_files.specs.Saving.{Prints}
 use Rattle.image_files.specs.Work.{Then, Purely, IsJust}
-use Rattle.drive_files.specs.Mounting.{places_of}
+use Rattle.drive_files.specs.Mounting.{places_of, with_papers}
 use Rattle.drive_files.specs.Opening.{OpensDrives, are_saved}
 use Rattle.drive_files.specs.declared.mounting.Places.{Places}
 use Rattle.drive_files.specs.declared.opening.OpenDrives.{OpenDrives}
 use Rattle.drive_files.proofs.KeepLemmas.{AreNone, AreUnplaced, drives-keep, drives-unplaced, saves-no-place}
+use Rattle.drive_files.proofs.PaperKeepLemmas.{devices-keep, devices-none, saves-no-papers}
 use Rattle.tape_commands.specs.Kinds.{RefusesFrames}
 use Rattle.tape_commands.specs.Programs.{ReadsProgram}
 use Rattle.run_commands.specs.CorePrograms.{FindsStart, LoadsCore, LoadsProgram, StartsAt, StartsIf, TellsCell, TellsStart, program_in}
 use Rattle.run_commands.specs.Machines8i as pdp8i
 use Rattle.run_commands.specs.Machines8e as pdp8e
-use Rattle.run_commands.specs.Devices8e.{OpensDevices, OpensPaper, ReadsTape, SavesPaper, SavesPapers, TakesPapers, has_papers, open_devices}
+use Rattle.drive_files.specs.Devices.{OpensDevices, TakesPapers, has_papers}
 use Rattle.run_commands.specs.Drives8e.{IsStation, OpensStation, PrintsIf, ProfilesDrives, ProfilesSaving, TracesDrives, TracesSaving}
 use Rattle.run_commands.specs.Printing.{EndsTrace, GivesProfile, PrintsRun, PrintsTrace}
 use Rattle.run_commands.specs.Profiles.{ProfilesOn, ProfilesPlain, ProfilesTape}
@@ -56,10 +56,8 @@ use Rattle.run_commands.specs.Runs.{IsReady, ReadsRun, start_or}
 use Rattle.run_commands.specs.Runs8e.{RunsDisks, RunsOn8e, loaded_console, needs_console}
 use Rattle.run_commands.specs.Teletypes.{ReadsProgramOf, RunsOn, RunsTeletype}
 use Rattle.run_commands.specs.Traces.{TracesOn, TracesTape}
-use Rattle.run_commands.proofs.ConsoleLemmas.{console-keeps, run-ends, text-keeps}
+use Rattle.run_commands.proofs.ConsoleLemmas.{console-keeps, files-keep, files-none, run-ends, text-keeps, without-papers}
 use Rattle.run_commands.specs.declared.core_programs.CoreProgram.{CoreProgram}
-use Rattle.run_commands.specs.declared.devices8e.OpenDevices.{OpenDevices}
-use Rattle.run_commands.specs.declared.devices8e.PaperPlace.{PaperPlace}
 use Rattle.run_commands.specs.declared.drives8e.Station.{Station}
 use Rattle.run_commands.specs.declared.printing.Stand.{Stand}
 use Rattle.run_commands.specs.declared.runs.Run.{Run}
@@ -87,51 +85,6 @@ starts-if-keeps words given None usual old result new p path = same path p.1
 finds-keeps : (frames : List ℕ) (given : Option ℕ) (items : List Item) → IsTape frames items → KeepsFiles (FindsStart frames given)
 finds-keeps frames given items is old result new p path = starts-if-keeps (words_of items) given (first_cell (words_of items)) (start_cell (words_of items)) old result new (p items is) path
 
--- ## Devices whose papers no file gets
-
-or-parts : (a b : Bool) → (a || b) ≡ false → (a ≡ false) × (b ≡ false)
-or-parts true b is = absurd (true≢false is)
-or-parts false b is = (refl, is)
-
-tape-keeps : (name : Option (String Global)) → KeepsFiles (ReadsTape name)
-tape-keeps None = purely-keeps (IsJust None)
-tape-keeps (Some name) = then-keeps (Looks name.bytes.items name.bytes.items) (λ frames. Purely (IsJust (Some frames))) (looks-keeps name.bytes.items name.bytes.items) (λ frames. purely-keeps (IsJust (Some frames)))
-
-paper-keeps : (name : Option (String Global)) → is_some name ≡ false → KeepsFiles (OpensPaper name)
-paper-keeps None is = purely-keeps (IsJust None)
-paper-keeps (Some name) is = absurd (true≢false is)
-
-devices-keep : (asked : DeviceForm) → (is_some asked.punch ≡ false) × (is_some asked.printer ≡ false) → KeepsFiles (OpensDevices asked)
-devices-keep asked none =
-    then-keeps (ReadsTape asked.reader) (λ tape. Then (OpensPaper asked.punch) (λ punch. Then (OpensPaper asked.printer) (λ printer. Purely (IsJust (open_devices tape punch printer))))) (tape-keeps asked.reader)
-    (λ tape. then-keeps (OpensPaper asked.punch) (λ punch. Then (OpensPaper asked.printer) (λ printer. Purely (IsJust (open_devices tape punch printer)))) (paper-keeps asked.punch none.0)
-    (λ punch. then-keeps (OpensPaper asked.printer) (λ printer. Purely (IsJust (open_devices tape punch printer))) (paper-keeps asked.printer none.1)
-    (λ printer. purely-keeps (IsJust (open_devices tape punch printer)))))
-
--- no file is held for a paper
-paper-none : (name : Option (String Global)) → is_some name ≡ false → (old : List Event) (place : Option PaperPlace) (new : List Event) → OpensPaper name old (Ok place) new → place ≡ None
-paper-none None is old place new p = p.0
-paper-none (Some name) is old place new p = absurd (true≢false is)
-
-module _ (asked : DeviceForm) (none : (is_some asked.punch ≡ false) × (is_some asked.printer ≡ false)) (devices : OpenDevices) where
-  after-punch : (tape : Option (Vec ℕ)) (punch : Option PaperPlace) (old new : List Event) → punch ≡ None
-      → Then (OpensPaper asked.printer) (λ printer. Purely (IsJust (open_devices tape punch printer))) old (Ok devices) new → (devices.punch ≡ None) × (devices.printer ≡ None)
-  after-punch tape punch old new is (inl ends) = absurd ends
-  after-punch tape punch old new is (inr it) = (
-    ap (λ (d : OpenDevices). d.punch) it.after.0 ∙ is,
-    ap (λ (d : OpenDevices). d.printer) it.after.0 ∙ paper-none asked.printer none.1 old it.given it.between it.done,
-  )
-
-  after-tape : (tape : Option (Vec ℕ)) (old new : List Event)
-      → Then (OpensPaper asked.punch) (λ punch. Then (OpensPaper asked.printer) (λ printer. Purely (IsJust (open_devices tape punch printer)))) old (Ok devices) new
-      → (devices.punch ≡ None) × (devices.printer ≡ None)
-  after-tape tape old new (inl ends) = absurd ends
-  after-tape tape old new (inr it) = after-punch tape it.given it.between new (paper-none asked.punch none.0 old it.given it.between it.done) it.after
-
-  devices-none : (old new : List Event) → OpensDevices asked old (Ok devices) new → (devices.punch ≡ None) × (devices.printer ≡ None)
-  devices-none old new (inl ends) = absurd ends
-  devices-none old new (inr it) = after-tape it.given it.between new it.after
-
 -- ## A station of which no file is saved
 
 abbrev IsFileless : Station → Type 0
@@ -143,29 +96,16 @@ places-none places drives is none = (
   ap (λ (p : Places). p.place1) is ∙ none.1,
   ap (λ (p : Places). p.place2) is ∙ none.2,
   ap (λ (p : Places). p.place3) is ∙ none.3,
+  ap (λ (p : Places). p.punch) is,
+  ap (λ (p : Places). p.printer) is,
 )
 
-saves-no-paper : (paper : PaperState) (place : Option PaperPlace) → place ≡ None → (old : List Event) (result : Result (Unit {0}) Ending) (new : List Event) → SavesPaper paper place old result new → new ≡ old
-saves-no-paper paper None none old result new p = p.1
-saves-no-paper paper (Some place) none old result new p = absurd (some-none place none)
-  where
-    some-none : (place : PaperPlace) → Some place ≡ None → ⊥
-    some-none place is = cc
-
-saves-no-papers : (papers : PapersState) (station : Station) → IsFileless station → (old : List Event) (result : Result (Unit {0}) Ending) (new : List Event)
-    → SavesPapers papers station.punch station.printer old result new → new ≡ old
-saves-no-papers papers station none old result new s =
-    saves-no-paper papers.printer station.printer none.2 s.between s.second new s.saves_printer ∙ saves-no-paper papers.punch station.punch none.1 old s.first s.between s.saves_punch
-
 module _ (form : DiskForm) (asked : DeviceForm) (program : CoreProgram) (is : are_saved form ≡ false) (none : has_papers asked ≡ false) where
-  without-papers : (is_some asked.punch ≡ false) × (is_some asked.printer ≡ false)
-  without-papers = or-parts (is_some asked.punch) (is_some asked.printer) none
-
   station-keeps : KeepsFiles (OpensStation form asked program)
   station-keeps = then-keeps (Purely (TakesPapers asked))
       (λ papers. Then (OpensDrives form) (λ drives. Then (OpensDevices asked) (λ devices. Purely (IsStation form asked papers drives devices program)))) (purely-keeps (TakesPapers asked))
       (λ papers. then-keeps (OpensDrives form) (λ drives. Then (OpensDevices asked) (λ devices. Purely (IsStation form asked papers drives devices program))) (drives-keep form)
-      (λ drives. then-keeps (OpensDevices asked) (λ devices. Purely (IsStation form asked papers drives devices program)) (devices-keep asked without-papers)
+      (λ drives. then-keeps (OpensDevices asked) (λ devices. Purely (IsStation form asked papers drives devices program)) (devices-keep asked (without-papers asked none))
       (λ devices. purely-keeps (IsStation form asked papers drives devices program))))
 
   after-drives : (papers : PapersState) (drives : OpenDrives) (old : List Event) (station : Station) (new : List Event) → AreUnplaced drives
@@ -173,7 +113,7 @@ module _ (form : DiskForm) (asked : DeviceForm) (program : CoreProgram) (is : ar
   after-drives papers drives old station new unplaced (inl ends) = absurd ends
   after-drives papers drives old station new unplaced (inr it) =
       let ready = it.after.0 in
-      let empty = devices-none asked without-papers it.given old it.between it.done in
+      let empty = devices-none asked (without-papers asked none) it.given old it.between it.done in
       (places-none station.places drives ready.1 unplaced, ready.2 ∙ empty.0, ready.3 ∙ empty.1)
 
   after-papers : (papers : PapersState) (old : List Event) (station : Station) (new : List Event)
@@ -223,7 +163,7 @@ module _
     profile-saving : (most : ℕ) (station : Station) (keys : List ℕ) (flags : List Bool) → IsFileless station → KeepsFiles (ProfilesSaving most station keys flags)
     profile-saving most station keys flags none old result new p path =
         if-keeps p.text p.written p.printed new p.prints path
-        ∙ (same path (saves-no-papers p.papers station none p.kept p.filed p.written p.files) ∙ same path (saves-no-place p.after.machine.disk station.places p.left old p.saved p.kept none.0 p.saves).0)
+        ∙ (same path (saves-no-papers p.papers station.punch station.printer none.1 none.2 p.kept p.filed p.written p.files) ∙ same path (saves-no-place p.after.machine.disk station.places p.left old p.saved p.kept none.0 p.saves).0)
 
     profile-drives : (form : DiskForm) (asked : DeviceForm) → are_saved form ≡ false → has_papers asked ≡ false → (most : ℕ) (run : Run) → KeepsFiles (ProfilesDrives form asked most run)
     profile-drives form asked is none most run old (Ok it) new (inl ends) path = absurd ends
@@ -252,7 +192,7 @@ module _
     trace-saving : (most : ℕ) (station : Station) (keys : List ℕ) (flags : List Bool) → IsFileless station → KeepsFiles (TracesSaving most station keys flags)
     trace-saving most station keys flags none old result new p path =
         trace-ends (next_cell p.after.machine.processor.base) p.fault p.done p.written p.ended new p.ends path
-        ∙ (same path (saves-no-papers p.papers station none p.kept p.filed p.written p.files)
+        ∙ (same path (saves-no-papers p.papers station.punch station.printer none.1 none.2 p.kept p.filed p.written p.files)
         ∙ (same path (saves-no-place p.after.machine.disk station.places p.left p.between p.saved p.kept none.0 p.saves).0 ∙ output-keeps old p.between p.fault path p.prints))
 
     trace-drives : (form : DiskForm) (asked : DeviceForm) → are_saved form ≡ false → has_papers asked ≡ false → (most : ℕ) (run : Run) → KeepsFiles (TracesDrives form asked most run)
@@ -277,22 +217,25 @@ module _
     prints-run : (runs_to : Stand → Option (List ℕ) → Option (List ℕ) → Result Ended TerminalFault → Type 0) (keys : Reading) → KeepsFiles (PrintsRun runs_to keys)
     prints-run runs_to keys old result new p path = run-ends p.stand p.fault p.done p.between result new p.ends path ∙ output-keeps old p.between p.fault path p.prints
 
-    runs-disks : (form : ConsoleForm) (program : CoreProgram) (keys : Reading) → are_saved form.disk ≡ false → KeepsFiles (RunsDisks form program keys)
-    runs-disks form program keys is old (Ok it) new (inl p) path = absurd p.0
-    runs-disks form program keys is old (Err ending) new (inl p) path = drives-keep form.disk old (Err ending) new p.0 path
-    runs-disks form program keys is old result new (inr it) path =
-        console-keeps output-keeps form (loaded_console form it.given program) (places_of it.given) keys (drives-unplaced form.disk is it.given old it.between it.done) it.between result new it.after path
-        ∙ drives-keep form.disk old (Ok it.given) it.between it.done path
+    runs-disks : (form : ConsoleForm) (program : CoreProgram) (keys : Reading) → are_saved form.disk ≡ false → has_papers form.devices ≡ false → KeepsFiles (RunsDisks form program keys)
+    runs-disks form program keys is none old (Ok it) new (inl p) path = absurd p.0
+    runs-disks form program keys is none old (Err ending) new (inl p) path = files-keep form none old (Err ending) new p.0 path
+    runs-disks form program keys is none old result new (inr it) path =
+        console-keeps output-keeps form (loaded_console form it.given program) (with_papers it.given.equipment.devices (places_of it.given.drives)) keys
+        (files-none form is none it.given old it.between it.done) it.between result new it.after path ∙ files-keep form none old (Ok it.given) it.between it.done path
 
-    runs-8e : (is : Bool) (form : TeletypeForm) (program : CoreProgram) (keys : Reading) → are_saved form.console.disk ≡ false → KeepsFiles (RunsOn8e is form program keys)
-    runs-8e true form program keys none = runs-disks form.console program keys none
-    runs-8e false form program keys none = prints-run (pdp8e.RunsTo form program keys) keys
+    runs-8e : (is : Bool) (form : TeletypeForm) (program : CoreProgram) (keys : Reading) → are_saved form.console.disk ≡ false → has_papers form.console.devices ≡ false
+        → KeepsFiles (RunsOn8e is form program keys)
+    runs-8e true form program keys is none = runs-disks form.console program keys is none
+    runs-8e false form program keys is none = prints-run (pdp8e.RunsTo form program keys) keys
 
-    runs-on : (cpu : Cpu) (form : TeletypeForm) (program : CoreProgram) (keys : Reading) → are_saved form.console.disk ≡ false → KeepsFiles (RunsOn cpu form program keys)
-    runs-on EightI form program keys none = prints-run (pdp8i.RunsTo form program keys) keys
-    runs-on EightE form program keys none = runs-8e (needs_console form.console) form program keys none
+    runs-on : (cpu : Cpu) (form : TeletypeForm) (program : CoreProgram) (keys : Reading) → are_saved form.console.disk ≡ false → has_papers form.console.devices ≡ false
+        → KeepsFiles (RunsOn cpu form program keys)
+    runs-on EightI form program keys is none = prints-run (pdp8i.RunsTo form program keys) keys
+    runs-on EightE form program keys is none = runs-8e (needs_console form.console) form program keys is none
 
-    pub teletype-keeps : (form : TeletypeForm) (keys : Reading) → are_saved form.console.disk ≡ false → KeepsFiles (RunsTeletype form keys)
-    teletype-keeps form keys none old (Ok it) new (inl p) path = absurd p.0
-    teletype-keeps form keys none old (Err ending) new (inl p) path = program-reads form old (Err ending) new p.0 path
-    teletype-keeps form keys none old result new (inr it) path = runs-on form.cpu form it.given keys none it.between result new it.after path ∙ program-reads form old (Ok it.given) it.between it.done path
+    pub teletype-keeps : (form : TeletypeForm) (keys : Reading) → are_saved form.console.disk ≡ false → has_papers form.console.devices ≡ false → KeepsFiles (RunsTeletype form keys)
+    teletype-keeps form keys is none old (Ok it) new (inl p) path = absurd p.0
+    teletype-keeps form keys is none old (Err ending) new (inl p) path = program-reads form old (Err ending) new p.0 path
+    teletype-keeps form keys is none old result new (inr it) path =
+        runs-on form.cpu form it.given keys is none it.between result new it.after path ∙ program-reads form old (Ok it.given) it.between it.done path

@@ -1,6 +1,5 @@
 mod KeepLemmas
 mod RunLemmas
 mod DriveLemmas
-mod DeviceLemmas
 mod ConsoleLemmas
 mod ReadyLemmas

@@ -29,11 +29,11 @@ use Rattle.drive_files.specs.Opening.{OpensDrives}
 use Rattle.drive_files.specs.Saving.{SavesDrives, earlier}
 use Rattle.drive_files.specs.declared.mounting.Places.{Places}
 use Rattle.drive_files.specs.declared.opening.OpenDrives.{OpenDrives}
-use Rattle.run_commands.specs.Devices8e.{OpensDevices, SavesPapers, TakesPapers, with_devices}
+use Rattle.drive_files.specs.Devices.{OpensDevices, SavesPapers, TakesPapers, with_devices}
 use Rattle.drive_files.specs.Inputs.{with_switches}
 use Rattle.run_commands.specs.Printing.{EndsTrace, IsProfiled}
 use Rattle.run_commands.specs.declared.core_programs.CoreProgram.{CoreProgram}
-use Rattle.run_commands.specs.declared.devices8e.OpenDevices.{OpenDevices}
+use Rattle.drive_files.specs.declared.devices.OpenDevices.{OpenDevices}
 use Rattle.run_commands.specs.declared.drives8e.Station.{Station}
 use Rattle.run_commands.specs.declared.runs.Run.{Run}
 

@@ -9,8 +9,8 @@ pub mod RunSteps
 pub mod Runs
 pub mod Teletypes
 pub mod Traces
-pub mod Devices8e
 pub mod Drives8e
+pub mod ConsoleFiles
 pub mod Boots
 pub mod Bootstraps
 pub mod Runs8e

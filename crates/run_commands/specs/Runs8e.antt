@@ -1,18 +1,19 @@
--- A run of an 8/E with disks at the console, and what the files of its disks get (this project's profile).
+-- A run of an 8/E with disks at the console, and what the files of its disks, punch and line printer get (this project's profile).
 use Rattle.std.specs.Prelude.{◌≡◌, ◌⊎◌, Bool, true, false, ◌||◌, is_some, Result, Ok, Err, List}
 use Rattle.byte_reader.specs.Readings.{Reading}
 use Rattle.hosts.specs.Event.{Event}
 use Rattle.program_tasks.specs.declared.boots.ConsoleForm.{ConsoleForm}
 use Rattle.program_tasks.specs.declared.boots.DiskForm.{DiskForm}
+use Rattle.program_tasks.specs.declared.devices.DeviceForm.{DeviceForm}
 use Rattle.program_tasks.specs.declared.tasks.TeletypeForm.{TeletypeForm}
 use Rattle.outcome.specs.declared.endings.Ending.{Ending}
 use Rattle.image_files.specs.Work.{Ends, Follows}
-use Rattle.drive_files.specs.Mounting.{places_of}
-use Rattle.drive_files.specs.Opening.{OpensDrives}
+use Rattle.drive_files.specs.Mounting.{places_of, with_papers}
+use Rattle.drive_files.specs.Devices.{SavesPapers}
 use Rattle.drive_files.specs.Saving.{SavesDrives, earlier}
 use Rattle.drive_files.specs.declared.mounting.Places.{Places}
-use Rattle.drive_files.specs.declared.opening.OpenDrives.{OpenDrives}
-use Rattle.drive_files.specs.Consoles.{console_with}
+use Rattle.run_commands.specs.ConsoleFiles.{OpensFiles, equipped_console}
+use Rattle.run_commands.specs.declared.console_files.ConsoleFiles.{ConsoleFiles}
 use Rattle.run_commands.specs.Drives8e.{machine_of}
 use Rattle.run_commands.specs.Machines8e.{RunsTo, stand_of}
 use Rattle.run_commands.specs.Printing.{EndsRun, PrintsRun}
@@ -20,14 +21,28 @@ use Rattle.drive_files.specs.Rounds.{RunsRounds}
 use Rattle.drive_files.specs.declared.consoles.Console.{Console}
 use Rattle.run_commands.specs.declared.core_programs.CoreProgram.{CoreProgram}
 use Rattle.drive_files.specs.declared.rounds.Ran.{Ran}
+use Rattle.drive_files.specs.declared.rounds.Unsaved.{Unsaved}
+use Rattle.drive_files.specs.declared.rounds.Unsaved.TheVariants.{Disk, Paper}
 
--- What is on the disks is saved, unless a save has failed before.
-abbrev pub SavesRest : Console → Places → Places → Result (Unit {0}) Ending → List Event → Result (Unit {0}) Ending → List Event → Type 0
-SavesRest s places places' (Ok it) old result new = SavesDrives s.machine.disk places places' old result new
-SavesRest s places places' (Err ending) old result new = (result ≡ Err ending) × (places' ≡ places) × (new ≡ old)
+-- what is on the disks is saved, and then what was put on paper
+pub record SavesAll (s : Console) (places places' : Places) (old : List Event) (result : Result (Unit {0}) Ending) (new : List Event) : Type 0 where
+  pub saved : Result (Unit {0}) Ending
+  pub between : List Event
+  pub filed : Result (Unit {0}) Ending
+  pub disks : SavesDrives s.machine.disk places places' old saved between
+  pub papers : SavesPapers s.papers places.punch places.printer between filed new
+  pub is : result ≡ earlier saved filed
 
--- A machine runs at the console, in rounds. What is on its disks then is saved, however the run ended. Then the line of its end is
--- printed. A disk that could not be saved is how the command ends.
+-- what is left is saved, where a disk or a paper could not be saved in the run: the papers, or the disks
+abbrev pub SavesRest : Console → Places → Places → Result (Unit {0}) Unsaved → List Event → Result (Unit {0}) Ending → List Event → Type 0
+SavesRest s places places' (Ok it) old result new = SavesAll s places places' old result new
+SavesRest s places places' (Err (Disk ending)) old result new =
+    (filed : Result (Unit {0}) Ending) × SavesPapers s.papers places.punch places.printer old filed new × (result ≡ Err ending) × (places' ≡ places)
+SavesRest s places places' (Err (Paper ending)) old result new =
+    (saved : Result (Unit {0}) Ending) × SavesDrives s.machine.disk places places' old saved new × (result ≡ earlier saved (Err ending))
+
+-- A machine runs at the console, in rounds. What is on its disks then is saved, and what was put on paper, however the run ended. Then the line of
+-- its end is printed. A disk or a paper that could not be saved is how the command ends.
 pub record RunsConsole (form : ConsoleForm) (first : Console) (places : Places) (keys : Reading) (old : List Event) (result : Result (Unit {0}) Ending) (new : List Event) : Type 0 where
   pub after : Console
   pub ran : Ran
@@ -48,20 +63,24 @@ pub record RunsConsole (form : ConsoleForm) (first : Console) (places : Places) 
 abbrev pub has_disk : DiskForm → Bool
 has_disk form = is_some form.drive0.image || (is_some form.drive1.image || (is_some form.drive2.image || is_some form.drive3.image))
 
--- a program runs as one that a disk boots: where there is a disk, or small letters are struck as capitals
+-- there is a reader with a tape, a punch or a line printer with a file, or a clock
+abbrev pub has_device : DeviceForm → Bool
+has_device form = is_some form.reader || (is_some form.punch || (is_some form.printer || is_some form.clock))
+
+-- a program runs as one that a disk boots: where there is a disk or another device, or small letters are struck as capitals
 abbrev pub needs_console : ConsoleForm → Bool
-needs_console form = form.has_capitals || has_disk form.disk
+needs_console form = form.has_capitals || (has_disk form.disk || has_device form.devices)
 
--- the machine of a program, with these disks
-abbrev pub loaded_console : ConsoleForm → OpenDrives → CoreProgram → Console
-loaded_console form drives program = console_with form (machine_of form.disk drives program)
+-- the machine of a program, with these files
+abbrev pub loaded_console : ConsoleForm → ConsoleFiles → CoreProgram → Console
+loaded_console form files program = equipped_console form (machine_of form.disk files.drives program) files.equipment
 
--- the files of the disks are held and read, and the program runs; where one is refused, no key is read
+-- the files are opened, and the program runs; where one is refused, no key is read
 abbrev pub RunsDisks : ConsoleForm → CoreProgram → Reading → List Event → Result (Unit {0}) Ending → List Event → Type 0
-RunsDisks form program keys old result new = (Ends (OpensDrives form.disk) old result new × (keys.after ≡ keys.before))
-    ⊎ Follows (OpensDrives form.disk) (λ drives. RunsConsole form (loaded_console form drives program) (places_of drives) keys) old result new
+RunsDisks form program keys old result new = (Ends (OpensFiles form) old result new × (keys.after ≡ keys.before))
+    ⊎ Follows (OpensFiles form) (λ files. RunsConsole form (loaded_console form files program) (with_papers files.equipment.devices (places_of files.drives)) keys) old result new
 
--- without a disk it runs at the Teletype alone
+-- without a device it runs at the Teletype alone
 abbrev pub RunsOn8e : Bool → TeletypeForm → CoreProgram → Reading → List Event → Result (Unit {0}) Ending → List Event → Type 0
 RunsOn8e true form program keys = RunsDisks form.console program keys
 RunsOn8e false form program keys = PrintsRun (RunsTo form program keys) keys

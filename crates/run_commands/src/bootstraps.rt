@@ -1,11 +1,12 @@
 //! The machine that boots, and what is had before.
 ghost use Rattle.std.specs.Prelude.{◌≡◌};
-ghost use Rattle.drive_files.specs.Mounting.{places_of};
+ghost use Rattle.drive_files.specs.Mounting.{places_of, with_papers};
 ghost use Rattle.run_commands.specs.Bootstraps as spec;
 ghost use Rattle.run_commands.specs.Bootstraps.{GetsReady};
 
+use crate::console_files::{ConsoleFiles, equipped_console, open_files};
 use core_load::Core;
-use drive_files::{Console, OpenDrives, Places, console_with, disk_of, open_drives};
+use drive_files::{Console, Places, disk_of};
 use hosts::Host;
 use outcome::Ending;
 use pdp8e::Machine;
@@ -16,10 +17,11 @@ use std::alloc::Global;
 #[derive(Drop)]
 pub(crate) struct Ready {
     pub(crate) core: Core,
-    pub(crate) drives: OpenDrives,
+    pub(crate) files: ConsoleFiles,
 }
 
-/// Opens the disks of the drives. Their memory and that of core is taken. No file changes.
+/// Opens the disks of the drives, and the files of the devices. Their memory and that of core is taken. No file changes but those of punch and
+/// line printer, which are made or emptied.
 pub(crate) fn get_ready<H: Host>(
     host: &mut H,
     alloc: Global,
@@ -27,21 +29,22 @@ pub(crate) fn get_ready<H: Host>(
 ) -> Result<Ready, Ending>
     ensures { GetsReady form.now (H.history host.old) result (H.history host.new) }
 {
-    let drives = open_drives(host, alloc, &form.disk)?;
+    let files = open_files(host, alloc, form)?;
     let core = Core::new(alloc)?;
-    Ok(Ready { core, drives })
+    Ok(Ready { core, files })
 }
 
-/// The machine that is to boot, and where the files of its disks are held.
+/// The machine that is to boot, and where its files are held.
 pub(crate) fn booted_console(form: &ConsoleForm, ready: Ready) -> (Console, Places)
     ensures console { result.0 ≡ spec.booted_console form.now ready }
-    ensures places { result.1 ≡ places_of ready.drives }
+    ensures places { result.1 ≡ with_papers ready.files.equipment.devices (places_of ready.files.drives) }
 {
-    let Ready { core, drives } = ready;
+    let Ready { core, files } = ready;
+    let ConsoleFiles { drives, equipment } = files;
     let (disk, places) = disk_of(&form.disk, drives);
     let mut machine = Machine::boot(core, disk);
     if let Some(word) = form.switches {
         machine.switches(word);
     }
-    (console_with(form, machine), places)
+    equipped_console(form, machine, places, equipment)
 }

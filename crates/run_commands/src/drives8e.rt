@@ -12,10 +12,12 @@ ghost use Rattle.run_commands.specs.Drives8e as spec;
 ghost use Rattle.run_commands.specs.Drives8e.{CountsSteps, OpensStation, PrintsIf, ProfilesDrives, ProfilesSaving, TracesDrives, TracesSaving, terminal_of};
 
 use crate::core_programs::CoreProgram;
-use crate::devices8e::{PaperPlace, open_devices, put_devices, save_papers, take_papers};
 use crate::printing::{counts_text, end_trace};
 use crate::runs::Run;
-use drive_files::{OpenDrives, Places, disk_of, earlier, open_drives, save_drives};
+use drive_files::{
+    OpenDrives, PaperPlace, Places, disk_of, earlier, open_devices, open_drives, put_devices,
+    save_drives, save_papers, take_papers,
+};
 use host_output::{Before, Printer};
 use hosts::{Host, PrintFault};
 use image_files::print;

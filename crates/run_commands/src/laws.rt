@@ -8,7 +8,7 @@ ghost use Rattle.image_files.specs.Laws.{KeepsFiles};
 ghost use Rattle.drive_files.specs.Opening.{are_saved};
 ghost use Rattle.run_commands.specs.Boots.{BootsDisk};
 ghost use Rattle.run_commands.specs.Bootstraps.{GetsReady};
-ghost use Rattle.run_commands.specs.Devices8e.{has_papers};
+ghost use Rattle.drive_files.specs.Devices.{has_papers};
 ghost use Rattle.run_commands.specs.Profiles.{ProfilesTape};
 ghost use Rattle.run_commands.specs.Teletypes.{RunsTeletype};
 ghost use Rattle.run_commands.specs.Traces.{TracesTape};
@@ -20,15 +20,15 @@ use image_files::laws::kept_files;
 use tape_commands::laws::unchanged_files as unchanged_programs;
 
 /// A law: none of these commands changes a file of the host or makes a folder, in whichever way it ends. Files of drives that are to be saved are excepted, and
-/// those of punch and line printer. Nor does what comes before a boot.
+/// those of punch and line printer. Nor does what comes before a boot, but for the latter.
 pub fn unchanged_files<I: ByteReader>()
     ensures profile { (form : TraceForm) → are_saved form.disk ≡ false → has_papers form.devices ≡ false → KeepsFiles (ProfilesTape form) }
     ensures trace { (form : TraceForm) → are_saved form.disk ≡ false → has_papers form.devices ≡ false → KeepsFiles (TracesTape form) }
-    ensures teletype { (form : TeletypeForm) (before after : I) → are_saved form.console.disk ≡ false
+    ensures teletype { (form : TeletypeForm) (before after : I) → are_saved form.console.disk ≡ false → has_papers form.console.devices ≡ false
         → KeepsFiles (RunsTeletype form (reading I.remaining I.has_failed before after)) }
-    ensures boot { (form : ConsoleForm) (before after : I) → are_saved form.disk ≡ false
+    ensures boot { (form : ConsoleForm) (before after : I) → are_saved form.disk ≡ false → has_papers form.devices ≡ false
         → KeepsFiles (BootsDisk form (reading I.remaining I.has_failed before after)) }
-    ensures refused { (form : ConsoleForm) → KeepsFiles (GetsReady form) }
+    ensures refused { (form : ConsoleForm) → has_papers form.devices ≡ false → KeepsFiles (GetsReady form) }
 {
     kept_files();
     unchanged_programs();

@@ -4,8 +4,8 @@
 
 mod boots;
 mod bootstraps;
+mod console_files;
 mod core_programs;
-mod devices8e;
 mod drives8e;
 pub mod laws;
 mod lines;

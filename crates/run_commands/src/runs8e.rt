@@ -1,26 +1,25 @@
-//! A run of an 8/E with disks at the console, and what the files of its disks get.
+//! A run of an 8/E with disks at the console, and what the files of its disks, punch and line printer get.
 ghost use Rattle.std.specs.Prelude.{◌≡◌, true};
 ghost use Rattle.byte_reader.specs.Readings.{reading};
 ghost use Rattle.drive_files.specs.Consoles.{console_acts};
-ghost use Rattle.drive_files.specs.Mounting.{places_of};
+ghost use Rattle.drive_files.specs.Mounting.{places_of, with_papers};
 ghost use Rattle.run_commands.specs.Runs8e as spec;
-ghost use Rattle.run_commands.specs.Runs8e.{RunsConsole, RunsDisks, RunsOn8e, SavesRest};
+ghost use Rattle.run_commands.specs.Runs8e.{RunsConsole, RunsDisks, RunsOn8e, SavesAll, SavesRest};
 
+use crate::console_files::{ConsoleFiles, equipped_console, open_files};
 use crate::core_programs::CoreProgram;
 use crate::drives8e::machine_of;
 use crate::machines8e::{run_plain, stand_of};
 use crate::printing::end_run;
 use byte_reader::ByteReader;
-use drive_files::{
-    Console, OpenDrives, Places, Ran, console_with, earlier, open_drives, run_rounds, save_drives,
-};
+use drive_files::{Console, Places, Ran, Unsaved, earlier, run_rounds, save_drives, save_papers};
 use hosts::Host;
 use outcome::Ending;
-use program_tasks::{ConsoleForm, DiskForm, TeletypeForm};
+use program_tasks::{ConsoleForm, DeviceForm, DiskForm, TeletypeForm};
 use std::alloc::Global;
 
-/// Runs a program at the Teletype of an 8/E, and prints the line of its end. One with a disk, or whose keys are struck as capitals, runs as one
-/// does that a disk boots.
+/// Runs a program at the Teletype of an 8/E, and prints the line of its end. One with a disk or another device, or whose keys are struck as
+/// capitals, runs as one does that a disk boots.
 pub(crate) fn run_8e<H: Host, I: ByteReader>(
     host: H,
     alloc: Global,
@@ -37,7 +36,7 @@ pub(crate) fn run_8e<H: Host, I: ByteReader>(
     run_plain(host, alloc, keys, form, program)
 }
 
-/// Opens the disks of a machine, and runs a program on it.
+/// Opens the files of a machine, and runs a program on it.
 fn run_disks<H: Host, I: ByteReader>(
     host: H,
     alloc: Global,
@@ -48,29 +47,34 @@ fn run_disks<H: Host, I: ByteReader>(
     ensures { RunsDisks form.now program (reading I.remaining I.has_failed keys.old keys.new) (H.history host) result.1 (H.history result.0) }
 {
     let mut host = host;
-    match open_drives(&mut host, alloc, &form.disk) {
-        Ok(drives) => {
-            let (console, places) = loaded_console(form, drives, program);
+    match open_files(&mut host, alloc, form) {
+        Ok(files) => {
+            let (console, places) = loaded_console(form, files, program);
             run_console(host, alloc, keys, form, console, places)
         }
         Err(ending) => (host, Err(ending)),
     }
 }
 
-/// The machine of a program, with these disks, and where their files are held.
-fn loaded_console(form: &ConsoleForm, drives: OpenDrives, program: CoreProgram) -> (Console, Places)
-    ensures console { result.0 ≡ spec.loaded_console form.now drives program }
-    ensures places { result.1 ≡ places_of drives }
+/// The machine of a program, with these files, and where they are held.
+fn loaded_console(
+    form: &ConsoleForm,
+    files: ConsoleFiles,
+    program: CoreProgram,
+) -> (Console, Places)
+    ensures console { result.0 ≡ spec.loaded_console form.now files program }
+    ensures places { result.1 ≡ with_papers files.equipment.devices (places_of files.drives) }
 {
+    let ConsoleFiles { drives, equipment } = files;
     let (machine, places) = machine_of(&form.disk, drives, program);
-    (console_with(form, machine), places)
+    equipped_console(form, machine, places, equipment)
 }
 
 /// Whether a program runs as one that a disk boots.
 fn needs_console(form: &ConsoleForm) -> bool
     ensures { result ≡ spec.needs_console form.now }
 {
-    form.has_capitals || has_disk(&form.disk)
+    form.has_capitals || (has_disk(&form.disk) || has_device(&form.devices))
 }
 
 /// Whether one of the drives has a disk.
@@ -82,9 +86,18 @@ fn has_disk(form: &DiskForm) -> bool
     first || (second || (third || fourth))
 }
 
+/// Whether there is a reader with a tape, a punch or a line printer with a file, or a clock.
+fn has_device(form: &DeviceForm) -> bool
+    ensures { result ≡ spec.has_device form.now }
+{
+    let (reader, punch) = (form.reader.is_some(), form.punch.is_some());
+    let (printer, clock) = (form.printer.is_some(), form.clock.is_some());
+    reader || (punch || (printer || clock))
+}
+
 /// Runs a machine at the console, whose keys a reader gives and whose paper is standard output. At the end of the run each file whose disk was
-/// written gets what is on the disk, whole or not at all. So it does in the run, while a key is waited for. The line of the end is printed on
-/// standard error.
+/// written gets what is on the disk, whole or not at all. The files of punch and line printer get what was written there. So they do in the
+/// run, while a key is waited for. The line of the end is printed on standard error.
 pub(crate) fn run_console<H: Host, I: ByteReader>(
     host: H,
     alloc: Global,
@@ -111,18 +124,47 @@ pub(crate) fn run_console<H: Host, I: ByteReader>(
     (host, earlier(saved, ended))
 }
 
-/// Saves the disks at the end of a run, unless a save has failed in it.
+/// Saves the disks and the papers at the end of a run, but for what could not be saved in it.
 fn save_rest<H: Host>(
     host: &mut H,
     alloc: Global,
     console: &mut Console,
     places: &mut Places,
-    save: Result<(), Ending>,
+    save: Result<(), Unsaved>,
 ) -> Result<(), Ending>
     ensures { SavesRest console.old places.old places.new save (H.history host.old) result (H.history host.new) }
 {
     match save {
-        Ok(()) => save_drives(host, alloc, &mut console.machine, places),
-        Err(ending) => Err(ending),
+        Ok(()) => save_all(host, alloc, console, places),
+        Err(unsaved) => match unsaved {
+            Unsaved::Disk(ending) => {
+                let filed = save_papers(
+                    host,
+                    alloc,
+                    &console.papers,
+                    &places.punch,
+                    &places.printer,
+                );
+                earlier(Err(ending), filed)
+            }
+            Unsaved::Paper(ending) => {
+                let saved = save_drives(host, alloc, &mut console.machine, places);
+                earlier(saved, Err(ending))
+            }
+        },
     }
+}
+
+/// Saves the disks, and then the papers, whatever became of the disks.
+fn save_all<H: Host>(
+    host: &mut H,
+    alloc: Global,
+    console: &mut Console,
+    places: &mut Places,
+) -> Result<(), Ending>
+    ensures { SavesAll console.old places.old places.new (H.history host.old) result (H.history host.new) }
+{
+    let saved = save_drives(host, alloc, &mut console.machine, places);
+    let filed = save_papers(host, alloc, &console.papers, &places.punch, &places.printer);
+    earlier(saved, filed)
 }

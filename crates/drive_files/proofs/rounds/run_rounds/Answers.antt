@@ -1,7 +1,6 @@
 use Rattle.std.proofs.Common.{◌≡◌, ◌∙◌, true, false, Some, None, Ok, Err, refl, ap, sym, subst}
 use Rattle.hosts.specs.Streams.{output_text}
 use Rattle.host_output.specs.Printing.{HasPrinted}
-use Rattle.image_files.specs.Saving.{IsDone}
 use Rattle.terminal8e.specs.Parts.{HasCome}
 use Rattle.drive_files.specs.Consoles.{console_acts}
 use Rattle.drive_files.specs.Rounds.{DoesBetween, SavedPlaces}
@@ -92,7 +91,7 @@ returns-in-Ok-true g c =
     (broken-runs (form_of f.is_raw) (input_of f.is_live) _ _ _ _ c.make_round-given.new.sitting _ _ _ _ _ (c.make_round-given.ensures.input ∙ c.loop-fault.invariant.input) (c.break_run-in-Ok-true.ensures.runs _ _ _ _ _ _) now)
     c.break_run-in-Ok-true.ensures.ended (subst (λ w. HasPrinted (g.H.Host.history c.loop-fault.host) before w) none c.make_round-given.ensures.prints)
     (subst (λ s. DoesBetween f steps s mid kept before (Ok true) after) (sym c.pause.ensures.console) does)
-    (refl, subst IsDone (sym c.break_run-in-Ok-true.ensures.save) tt) c.break_run-in-Ok-true.ensures.fault
+    (refl, c.break_run-in-Ok-true.ensures.save) c.break_run-in-Ok-true.ensures.fault
 
 pub returns-in-Err-pause : goal.returns-in-Err-pause
 returns-in-Err-pause g c =
@@ -106,14 +105,14 @@ returns-in-Err-pause g c =
     let kept : SavedPlaces = (c.pause.new.places, c.pause.new.last) in
     let steps = c.make_round-given.new.sitting.steps in
     let come = part-comes (form_of f.is_raw) (input_of f.is_live) _ _ _ _ _ _ _ _ _ _ _ _ _ part (Ok None) c.loop-fault.invariant.input is (c.make_round-given.ensures.runs _ _ _ _) c.loop-fault.invariant.come in
-    let does = subst (λ k. DoesBetween f k c.make_round-given.new.console mid kept before (Err c.in-Err-pause.ending) after) c.steps-steps.ensures (c.in-Err-pause.ensures {u = tt}).does in
+    let does = subst (λ k. DoesBetween f k c.make_round-given.new.console mid kept before (Err c.in-Err-pause.unsaved) after) c.steps-steps.ensures (c.in-Err-pause.ensures {u = tt}).does in
     let none = none-is c.make_round-given.result.1 (sym c.is_some.ensures ∙ c.if-is_some.false) in
-    let on = come-on _ _ _ _ _ _ _ _ before after come (between-text f steps c.make_round-given.new.console mid kept before (Err c.in-Err-pause.ending) after does) in
+    let on = come-on _ _ _ _ _ _ _ _ before after come (between-text f steps c.make_round-given.new.console mid kept before (Err c.in-Err-pause.unsaved) after does) in
     let now = subst (λ s. HasCome console_acts (form_of f.is_raw) (input_of f.is_live) c.args.console.now s c.make_round-given.new.sitting (g.I.ByteReader.remaining c.args.keys.now)
     (g.I.ByteReader.remaining c.make_round-given.new.keys) (Some (output_text (g.H.Host.history c.args.host))) (Some (output_text after))) (sym c.pause.ensures.console) on in
     broken-between f c.args.console.now c.pause.new.console c.args.places.now mid kept _ (g.H.Host.history c.args.host) (g.H.Host.history c.loop-fault.host) before after
-    c.break_run-in-Err-pause.result c.loop-fault.sitting.steps steps (Err c.in-Err-pause.ending) less c.loop-fault.invariant.made
+    c.break_run-in-Err-pause.result c.loop-fault.sitting.steps steps (Err c.in-Err-pause.unsaved) less c.loop-fault.invariant.made
     (broken-runs (form_of f.is_raw) (input_of f.is_live) _ _ _ _ c.make_round-given.new.sitting _ _ _ _ _ (c.make_round-given.ensures.input ∙ c.loop-fault.invariant.input) (c.break_run-in-Err-pause.ensures.runs _ _ _ _ _ _) now)
     c.break_run-in-Err-pause.ensures.ended (subst (λ w. HasPrinted (g.H.Host.history c.loop-fault.host) before w) none c.make_round-given.ensures.prints)
-    (subst (λ s. DoesBetween f steps s mid kept before (Err c.in-Err-pause.ending) after) (sym c.pause.ensures.console) does)
+    (subst (λ s. DoesBetween f steps s mid kept before (Err c.in-Err-pause.unsaved) after) (sym c.pause.ensures.console) does)
     c.break_run-in-Err-pause.ensures.save c.break_run-in-Err-pause.ensures.fault

@@ -1,7 +1,7 @@
 use Rattle.std.proofs.Common.{◌∙◌, ap, inl, inr, refl}
 use Rattle.image_files.proofs.WorkLemmas.{ends_with}
 use Rattle.drive_files.specs.Opening.{OpensDrives}
-use Rattle.run_commands.specs.Devices8e.{OpensDevices, with_devices}
+use Rattle.drive_files.specs.Devices.{OpensDevices, with_devices}
 use Rattle.run_commands.proofs.drives8e.open_station.Goals as goal
 
 pub returns-in_err-drives : goal.returns-in_err-drives

@@ -1,5 +1,5 @@
 use Rattle.std.proofs.Common.{rules}
-use Rattle.run_commands.proofs.devices8e.hold_paper.Goals as goal
+use Rattle.drive_files.proofs.devices.hold_paper.Goals as goal
 
 pub returns-in-Err : goal.returns-in-Err
 returns-in-Err g c = (

@@ -2,7 +2,7 @@ use Rattle.std.proofs.Common.{◌∷◌, ◌∙◌, [], false, ap, subst}
 use Rattle.hosts.specs.Event.{there_call}
 use Rattle.image_files.specs.Making.{MakesFile}
 use Rattle.outcome.specs.declared.contents.Content.TheVariants.{Tape}
-use Rattle.run_commands.proofs.devices8e.make_paper.Goals as goal
+use Rattle.drive_files.proofs.devices.make_paper.Goals as goal
 
 pub returns : goal.returns
 returns g c = (

@@ -1,7 +1,7 @@
 use Rattle.std.proofs.Common.{◌∙◌, ap}
 use Rattle.drive_files.specs.Saving.{earlier}
-use Rattle.run_commands.specs.Devices8e.{paper_end}
-use Rattle.run_commands.proofs.devices8e.save_paper.Goals as goal
+use Rattle.drive_files.specs.Devices.{paper_end}
+use Rattle.drive_files.proofs.devices.save_paper.Goals as goal
 
 pub returns-in-Some : goal.returns-in-Some
 returns-in-Some g c = rw c.in-Some.is (record {

@@ -19,8 +19,8 @@ use Rattle.image_files.specs.Reasons.{TellsFault}
 use Rattle.image_files.specs.Saving.{Writes}
 use Rattle.image_files.specs.Work.{Then, Purely, Lacks, IsJust}
 use Rattle.drive_files.specs.Saving.{SavesNothing, earlier}
-use Rattle.run_commands.specs.declared.devices8e.OpenDevices.{OpenDevices}
-use Rattle.run_commands.specs.declared.devices8e.PaperPlace.{PaperPlace}
+use Rattle.drive_files.specs.declared.devices.OpenDevices.{OpenDevices}
+use Rattle.drive_files.specs.declared.devices.PaperPlace.{PaperPlace}
 
 -- a file gets what is punched, or printed on the line printer
 abbrev pub has_papers : DeviceForm → Bool

@@ -5,8 +5,8 @@ use Rattle.hosts.specs.Event.{Event}
 use Rattle.refusals.specs.declared.faults.SessionFault.TheVariants.{Memory}
 use Rattle.outcome.specs.declared.endings.Ending.{Ending}
 use Rattle.outcome.specs.declared.endings.Ending.TheVariants.{Fault}
-use Rattle.run_commands.specs.Devices8e.{WantsMemory}
-use Rattle.run_commands.specs.declared.devices8e.PaperPlace.{PaperPlace}
+use Rattle.drive_files.specs.Devices.{WantsMemory}
+use Rattle.drive_files.specs.declared.devices.PaperPlace.{PaperPlace}
 
 pub name-memory : (old : List Event) (result : Result PaperPlace Ending) (ending : Ending) → ending ≡ Fault Memory → IsErr result × IsErrAnd result (λ it. it ≡ ending) → WantsMemory old result old
 name-memory old (Ok place) ending memory ends = absurd ends.1

@@ -1,9 +1,9 @@
 //! The tape in the reader of an 8/E, its clock, and the files that get what is punched and printed on the line printer.
 ghost use Rattle.std.specs.Prelude.{◌≡◌};
-ghost use Rattle.run_commands.specs.Devices8e as spec;
-ghost use Rattle.run_commands.specs.Devices8e.{EmptiesPaper, HoldsPaper, MakesPaper, OpensDevices, OpensPaper, ReadsTape, SavesPaper, SavesPapers, TakesPapers};
+ghost use Rattle.drive_files.specs.Devices as spec;
+ghost use Rattle.drive_files.specs.Devices.{EmptiesPaper, HoldsPaper, MakesPaper, OpensDevices, OpensPaper, ReadsTape, SavesPaper, SavesPapers, TakesPapers};
 
-use drive_files::earlier;
+use crate::saving::earlier;
 use hosts::{FaultClass, Held, Host, HostFault, Unwritten, hold_file};
 use image_files::{look_file, make_file, tell_fault, write_file};
 use outcome::{Content, Ending};
@@ -14,23 +14,23 @@ use std::alloc::Global;
 
 /// Where the file of a paper is held, which gets it at the end of the run.
 #[derive(Drop)]
-pub(crate) struct PaperPlace {
-    pub(crate) path: String,
+pub struct PaperPlace {
+    pub path: String,
 
     /// Its name, as it was given.
-    pub(crate) name: String,
+    pub name: String,
 }
 
 /// The frames of the tape in the reader, and where the files of punch and line printer are held.
 #[derive(Drop)]
-pub(crate) struct OpenDevices {
-    pub(crate) tape: Option<Vec<u8>>,
-    pub(crate) punch: Option<PaperPlace>,
-    pub(crate) printer: Option<PaperPlace>,
+pub struct OpenDevices {
+    pub tape: Option<Vec<u8>>,
+    pub punch: Option<PaperPlace>,
+    pub printer: Option<PaperPlace>,
 }
 
 /// Reads the tape of the reader, and makes or empties the files of punch and line printer.
-pub(crate) fn open_devices<H: Host>(
+pub fn open_devices<H: Host>(
     host: &mut H,
     alloc: Global,
     form: &DeviceForm,
@@ -130,7 +130,7 @@ fn ending_of_paper(fault: HostFault) -> Ending
 }
 
 /// Puts tape, paper and clock into a machine, each if there is one. The answer is where the files of punch and line printer are held.
-pub(crate) fn put_devices(
+pub fn put_devices(
     machine: &mut Machine,
     form: &DeviceForm,
     devices: OpenDevices,
@@ -157,7 +157,7 @@ pub(crate) fn put_devices(
 }
 
 /// Empty papers for punch and line printer, which keep what is put on them where a file gets it. Their memory is taken here.
-pub(crate) fn take_papers(alloc: Global, form: &DeviceForm) -> Result<Papers, Ending>
+pub fn take_papers(alloc: Global, form: &DeviceForm) -> Result<Papers, Ending>
     ensures { TakesPapers form.now result }
 {
     let papers = Papers::new(alloc, form.punch.is_some(), form.printer.is_some())?;
@@ -166,7 +166,7 @@ pub(crate) fn take_papers(alloc: Global, form: &DeviceForm) -> Result<Papers, En
 
 /// Has the files of punch and line printer hold what was put on paper. Where one can't be written the other is. The answer is why the first
 /// was not.
-pub(crate) fn save_papers<H: Host>(
+pub fn save_papers<H: Host>(
     host: &mut H,
     alloc: Global,
     papers: &Papers,

@@ -2,9 +2,9 @@ use Rattle.std.proofs.Common.{[], Err, inl, inr, refl, subst}
 use Rattle.image_files.specs.Saving.{Writes}
 use Rattle.image_files.proofs.WorkLemmas.{ends_with}
 use Rattle.outcome.specs.declared.contents.Content.TheVariants.{Tape}
-use Rattle.run_commands.specs.Devices8e.{HoldsPaper, MakesPaper}
-use Rattle.run_commands.proofs.DeviceLemmas.{name-memory}
-use Rattle.run_commands.proofs.devices8e.empty_paper.Goals as goal
+use Rattle.drive_files.specs.Devices.{HoldsPaper, MakesPaper}
+use Rattle.drive_files.proofs.DeviceLemmas.{name-memory}
+use Rattle.drive_files.proofs.devices.empty_paper.Goals as goal
 
 pub returns-in_err-shown : goal.returns-in_err-shown
 returns-in_err-shown g c = inl (name-memory _ _ _ refl c.from_residual.ensures)

@@ -1,5 +1,5 @@
 use Rattle.std.proofs.Common.{inr, refl}
-use Rattle.run_commands.proofs.devices8e.read_tape.Goals as goal
+use Rattle.drive_files.proofs.devices.read_tape.Goals as goal
 
 pub returns-in_ok-frames-in-Some : goal.returns-in_ok-frames-in-Some
 returns-in_ok-frames-in-Some g c = rw c.in-Some.is (inr (record {

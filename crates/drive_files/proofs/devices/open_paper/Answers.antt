@@ -1,7 +1,7 @@
 use Rattle.std.proofs.Common.{inl, inr, refl}
 use Rattle.image_files.proofs.WorkLemmas.{ends_with}
-use Rattle.run_commands.specs.Devices8e.{EmptiesPaper}
-use Rattle.run_commands.proofs.devices8e.open_paper.Goals as goal
+use Rattle.drive_files.specs.Devices.{EmptiesPaper}
+use Rattle.drive_files.proofs.devices.open_paper.Goals as goal
 
 pub returns-in_err-place-in-Some : goal.returns-in_err-place-in-Some
 returns-in_err-place-in-Some g c = rw c.in-Some.is (inl (ends_with (EmptiesPaper c.in-Some.name.bytes.items) (g.H.Host.history c.args.host.now) _ _ _

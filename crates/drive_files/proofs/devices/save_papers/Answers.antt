@@ -1,7 +1,7 @@
 use Rattle.std.proofs.Common.{subst}
 use Rattle.pdp8e.specs.Papers.{PapersState}
-use Rattle.run_commands.specs.Devices8e.{SavesPapers}
-use Rattle.run_commands.proofs.devices8e.save_papers.Goals as goal
+use Rattle.drive_files.specs.Devices.{SavesPapers}
+use Rattle.drive_files.proofs.devices.save_papers.Goals as goal
 
 pub returns : goal.returns
 returns g c = subst (λ (p : PapersState). SavesPapers p c.args.punch.now c.args.printer.now (g.H.Host.history c.args.host.now) c.earlier.result (g.H.Host.history c.save_paper-second.new.host)) c.papers.view_is (record {

@@ -1,7 +1,7 @@
 use Rattle.std.proofs.Common.{inl, inr, refl}
 use Rattle.image_files.proofs.WorkLemmas.{ends_with}
-use Rattle.run_commands.specs.Devices8e.{OpensPaper, ReadsTape}
-use Rattle.run_commands.proofs.devices8e.open_devices.Goals as goal
+use Rattle.drive_files.specs.Devices.{OpensPaper, ReadsTape}
+use Rattle.drive_files.proofs.devices.open_devices.Goals as goal
 
 pub returns-in_err-tape : goal.returns-in_err-tape
 returns-in_err-tape g c = inl (ends_with (ReadsTape c.args.form.now.reader) _ _ _ _ c.in_err-tape.ensures c.from_residual.ensures)
