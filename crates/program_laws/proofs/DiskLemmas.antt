@@ -11,11 +11,12 @@ use Rattle.drive_files.specs.Consoles.{is_at_wait, is_waiting}
 use Rattle.drive_files.specs.Rounds.{AsksAfter, AsksForEnd, DoesAfter, DoesBetween, FilesIfGrown, SavedPlaces, SavesIfDue, is_due, is_grown, last_after}
 use Rattle.drive_files.specs.declared.rounds.Unsaved.{Unsaved}
 use Rattle.drive_files.specs.declared.rounds.Unsaved.TheVariants.{Disk, Paper}
+use Rattle.drive_files.specs.Devices.{SavesPapers}
 use Rattle.drive_files.specs.Saving.{SavesDrives}
 use Rattle.drive_files.specs.declared.consoles.Console.{Console}
 use Rattle.drive_files.specs.declared.mounting.Places.{Places}
 use Rattle.run_commands.specs.Runs8e.{SavesRest}
-use Rattle.program_laws.specs.Disks.{IsDue, IsGrown, NoDiskFailed, NoPaperFailed, TriesToFile, TriesToSave}
+use Rattle.program_laws.specs.Disks.{FilesAtEnd, FilesBetween, IsDue, IsGrown, NoDiskFailed, NoPaperFailed, SavesAtEnd, SavesFirst, TriesToSave}
 
 apart : (a b : ℕ) → not (nat_eq a b) ≡ true → a ≢ b
 apart a b is same = true≢false (sym (eq-eqb a b same) ∙ not-true (nat_eq a b) is)
@@ -84,24 +85,31 @@ due-same : (form : ConsoleForm) (steps : ℕ) (s : Console) (kept mid : SavedPla
 due-same form steps s kept mid old saved between (inl (idle, same, p)) = ap (λ (k : SavedPlaces). is_grown s k.1) same
 due-same form steps s kept mid old saved between (inr there) = ap (λ l. is_grown s l) there.last ∙ last-same saved steps s mid.0 kept
 
-filed-then : (s : Console) (places : Places) (last last' : _) (filed : Result (Unit {0}) Ending) (old between : List Event) → is_grown s last ≡ true → FilesIfGrown s places last last' old filed between → TriesToFile s places
+filed-then : (s : Console) (places : Places) (last last' : _) (filed : Result (Unit {0}) Ending) (old between : List Event) → is_grown s last ≡ true → FilesIfGrown s places last last' old filed between
+    → SavesPapers s.papers places.punch places.printer old filed between
 filed-then s places last last' filed old between is (inl (idle, same, p)) = absurd (true≢false (sym is ∙ idle))
-filed-then s places last last' filed old between is (inr there) = (filed, old, between, there.saves)
+filed-then s places last last' filed old between is (inr there) = there.saves
+
+saved-first : (form : ConsoleForm) (steps : ℕ) (s : Console) (kept mid : SavedPlaces) (old : List Event) (saved : Result (Unit {0}) Ending) (between : List Event) → SavesIfDue form steps s kept mid old saved between
+    → SavesFirst s kept.0 mid.0 old between
+saved-first form steps s kept mid old saved between (inl (idle, same, p)) = inl p.1
+saved-first form steps s kept mid old saved between (inr there) = inr (saved, there.saves)
 
 pub grown-then : (form : ConsoleForm) (steps : ℕ) (s : Console) (kept after : SavedPlaces) (old : List Event) (is_asked : Bool) (new : List Event) → DoesBetween form steps s kept after old (Ok is_asked) new
-    → is_grown s kept.1 ≡ true → TriesToFile s after.0
+    → is_grown s kept.1 ≡ true → FilesBetween form s kept.0 after.0 old is_asked new
 grown-then form steps s kept after old is_asked new (Ok it, mid, between, saves, (filed, last, written, files, is, asks)) more =
-    subst (λ (p : Places). TriesToFile s p) (sym (ap (λ (k : SavedPlaces). k.0) is)) (filed-then s mid.0 mid.1 last filed between written (due-same form steps s kept mid old (Ok it) between saves ∙ more) files)
+    subst (λ (p : Places). FilesBetween form s kept.0 p old is_asked new) (sym (ap (λ (k : SavedPlaces). k.0) is))
+    (between, written, filed, saved-first form steps s kept mid old (Ok it) between saves, filed-then s mid.0 mid.1 last filed between written (due-same form steps s kept mid old (Ok it) between saves ∙ more) files, asks)
 grown-then form steps s kept after old is_asked new (Err ending, mid, between, saves, next) more = absurd next
 
 pub saved-rest : (s : Console) (places after : Places) (before : Result (Unit {0}) Unsaved) (old : List Event) (result : Result (Unit {0}) Ending) (new : List Event) → SavesRest s places after before old result new → NoDiskFailed before
-    → TriesToSave s places after old
-saved-rest s places after (Ok it) old result new p done = (p.saved, p.between, p.disks)
+    → SavesAtEnd s places after old new
+saved-rest s places after (Ok it) old result new p done = (p.saved, p.between, p.disks, inr (p.filed, p.papers))
 saved-rest s places after (Err (Disk ending)) old result new p done = absurd done
-saved-rest s places after (Err (Paper ending)) old result new (saved, disks, is) done = (saved, new, disks)
+saved-rest s places after (Err (Paper ending)) old result new (saved, disks, is) done = (saved, new, disks, inl refl)
 
 pub filed-rest : (s : Console) (places after : Places) (before : Result (Unit {0}) Unsaved) (old : List Event) (result : Result (Unit {0}) Ending) (new : List Event) → SavesRest s places after before old result new → NoPaperFailed before
-    → TriesToFile s places
-filed-rest s places after (Ok it) old result new p done = (p.filed, p.between, new, p.papers)
-filed-rest s places after (Err (Disk ending)) old result new (filed, papers, is, same) done = (filed, old, new, papers)
+    → FilesAtEnd s places after old new
+filed-rest s places after (Ok it) old result new p done = (p.filed, p.between, inr (p.saved, p.disks), p.papers)
+filed-rest s places after (Err (Disk ending)) old result new (filed, papers, is, same) done = (filed, old, inl refl, papers)
 filed-rest s places after (Err (Paper ending)) old result new p done = absurd done

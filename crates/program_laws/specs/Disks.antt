@@ -10,7 +10,7 @@ use Rattle.outcome.specs.declared.endings.Ending.TheVariants.{Fault}
 use Rattle.program_tasks.specs.declared.boots.ConsoleForm.{ConsoleForm}
 use Rattle.drive_files.specs.Consoles.{is_at_wait, is_waiting}
 use Rattle.drive_files.specs.Devices.{SavesPapers}
-use Rattle.drive_files.specs.Rounds.{SavedPlaces}
+use Rattle.drive_files.specs.Rounds.{AsksAfter, SavedPlaces}
 use Rattle.drive_files.specs.Saving.{SavesDrives}
 use Rattle.drive_files.specs.declared.consoles.Console.{Console}
 use Rattle.drive_files.specs.declared.mounting.Places.{Places}
@@ -45,9 +45,26 @@ pub record IsGrown (s : Console) (kept : SavedPlaces) : Type 0 where
   pub grown : (length s.papers.punch.bytes ≢ kept.1.frames) ⊎ (length s.papers.printer.bytes ≢ kept.1.characters)
   pub waits : is_waiting s ≡ true
 
--- the papers were saved, or a save of one failed
-abbrev pub TriesToFile : Console → Places → Type 0
-TriesToFile s places = (filed : Result (Unit {0}) Ending) × (old new : List Event) × SavesPapers s.papers places.punch places.printer old filed new
+-- the disks were saved before that, or a save of one failed; or nothing was asked of the host
+abbrev pub SavesFirst : Console → Places → Places → List Event → List Event → Type 0
+SavesFirst s places after old new = (new ≡ old) ⊎ ((saved : Result (Unit {0}) Ending) × SavesDrives s.machine.disk places after old saved new)
+
+-- the papers were saved after that, or a save of one failed; or nothing was asked of the host
+abbrev pub FilesNext : Console → Places → List Event → List Event → Type 0
+FilesNext s places old new = (new ≡ old) ⊎ ((filed : Result (Unit {0}) Ending) × SavesPapers s.papers places.punch places.printer old filed new)
+
+-- at the end of a run the disks were saved, or a save of one failed, and then the papers, or nothing
+abbrev pub SavesAtEnd : Console → Places → Places → List Event → List Event → Type 0
+SavesAtEnd s places after old new = (saved : Result (Unit {0}) Ending) × (between : List Event) × SavesDrives s.machine.disk places after old saved between × FilesNext s places between new
+
+-- the papers were saved there, or a save of one failed, after the disks, or nothing
+abbrev pub FilesAtEnd : Console → Places → Places → List Event → List Event → Type 0
+FilesAtEnd s places after old new = (filed : Result (Unit {0}) Ending) × (between : List Event) × SavesFirst s places after old between × SavesPapers s.papers places.punch places.printer between filed new
+
+-- between two parts of a run the papers were saved, after the disks, or nothing, and before it was asked for an end
+abbrev pub FilesBetween : ConsoleForm → Console → Places → Places → List Event → Bool → List Event → Type 0
+FilesBetween form s places after old is_asked new = (before written : List Event) × (filed : Result (Unit {0}) Ending)
+    × SavesFirst s places after old before × SavesPapers s.papers after.punch after.printer before filed written × AsksAfter form.ends_with filed written (Ok is_asked) new
 
 -- the line of a command that ends so is a refusal, with the drive after it if that isn't 0; or memory is wanted
 abbrev pub NamesDrive : ℕ → Ending → Type 0

@@ -15,7 +15,7 @@ ghost use Rattle.drive_files.specs.declared.consoles.Console.{Console};
 ghost use Rattle.drive_files.specs.declared.mounting.Places.{Places};
 ghost use Rattle.drive_files.specs.declared.rounds.Unsaved.{Unsaved};
 ghost use Rattle.run_commands.specs.Runs8e.{RunsConsole};
-ghost use Rattle.program_laws.specs.Disks.{IsDue, IsGrown, NamesDrive, NoDiskFailed, NoPaperFailed, TriesToFile, TriesToSave};
+ghost use Rattle.program_laws.specs.Disks.{FilesAtEnd, FilesBetween, IsDue, IsGrown, NamesDrive, NoDiskFailed, NoPaperFailed, SavesAtEnd, TriesToSave};
 
 use byte_reader::ByteReader;
 
@@ -29,7 +29,7 @@ pub fn saved_disks<I: ByteReader>()
         → DoesBetween form steps s kept after old result new → is_due form steps s kept.1 ≡ false → is_grown s kept.1 ≡ false → ChangesNothing old new }
     ensures end { (form : Form) (first : Console) (places : Places) (before after : I) (old : List Event) (result : Result (Unit {0}) End) (new : List Event)
         (r : RunsConsole form first places (reading I.remaining I.has_failed before after) old result new) → NoDiskFailed r.ran.save
-        → TriesToSave r.after r.mid r.left r.between }
+        → SavesAtEnd r.after r.mid r.left r.between r.kept }
 {}
 
 /// Between two parts of a run the papers of punch and line printer are saved where one has grown, unless a disk could not be saved. That is only while the
@@ -37,9 +37,11 @@ pub fn saved_disks<I: ByteReader>()
 pub fn saved_papers<I: ByteReader>()
     ensures when { (s : Console) (kept : SavedPlaces) → is_grown s kept.1 ≡ true → IsGrown s kept }
     ensures grown { (form : Form) (steps : ℕ) (s : Console) (kept after : SavedPlaces) (old : List Event) (is_asked : Bool) (new : List Event)
-        → DoesBetween form steps s kept after old (Ok is_asked) new → is_grown s kept.1 ≡ true → TriesToFile s after.0 }
+        → DoesBetween form steps s kept after old (Ok is_asked) new → is_grown s kept.1 ≡ true
+        → FilesBetween form s kept.0 after.0 old is_asked new }
     ensures end { (form : Form) (first : Console) (places : Places) (before after : I) (old : List Event) (result : Result (Unit {0}) End) (new : List Event)
-        (r : RunsConsole form first places (reading I.remaining I.has_failed before after) old result new) → NoPaperFailed r.ran.save → TriesToFile r.after r.mid }
+        (r : RunsConsole form first places (reading I.remaining I.has_failed before after) old result new) → NoPaperFailed r.ran.save
+        → FilesAtEnd r.after r.mid r.left r.between r.kept }
 {}
 
 /// The line of a drive's disk that is refused, or not saved, has the drive after the refusal, unless that is drive 0 or memory is wanted.
