@@ -45,14 +45,19 @@ class Sitting:
         self.said = b""
         self.status: int | None = None
         command = f'. ./launch; launch ./pdp8 {command} "$@" {more}'
+        known, told = os.pipe()
         self.shell, self.terminal = pty.fork()
         if self.shell == 0:
+            os.read(known, 1)  # waits until the settings of the terminal are known
             # who runs the gate in the background, or by nohup, has these ignored, and what inherits that isn't ended by them
             for signalled in (signal.SIGINT, signal.SIGQUIT, signal.SIGHUP):
                 signal.signal(signalled, signal.SIG_DFL)
             os.chdir(folder)
             os.execvp("bash", ["bash", "-uc", command, "pdp8", *words])
         self.before = attributes(self.terminal)
+        os.write(told, b"!")
+        os.close(told)
+        os.close(known)
 
     def waits_for(self, wanted: bytes) -> bool:
         """Reads until something was said, and answers whether it was."""
