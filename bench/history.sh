@@ -61,6 +61,6 @@ awk '{ for (k = 4; k <= 8; k++) if (k != 5) { sum[$11, k] += log($k); if (!(($11
        if (!count[$11]++) kinds[++n] = $11 }
      END { split("4 6 7 8", columns)
            for (i = 1; i <= n; i++) { kind = kinds[i]; printf "%s: go, far, near and write, geometric mean and least:", kind
-               for (c = 1; c <= 4; c++) { k = columns[c]; printf "%s %.2f %.2f %s", c > 1 ? ";" : "", exp(sum[kind, k] / count[kind]), least[kind, k], which[kind, k] }
+               for (c = 1; c <= 4; c++) { k = columns[c]; printf "%s %.2f %.2f %s", (c > 1 ? ";" : ""), exp(sum[kind, k] / count[kind]), least[kind, k], which[kind, k] }
                print "" }
            printf "at most: %.3f ms for a change back, %d MB and %d MB of memory\n", slowest, short, long }' figures
