@@ -16,7 +16,7 @@ use Rattle.drive_files.specs.Saving.{SavesDrives}
 use Rattle.drive_files.specs.declared.consoles.Console.{Console}
 use Rattle.drive_files.specs.declared.mounting.Places.{Places}
 use Rattle.run_commands.specs.Runs8e.{SavesRest}
-use Rattle.program_laws.specs.Disks.{FilesAtEnd, FilesBetween, IsDue, IsGrown, NoDiskFailed, NoPaperFailed, SavesAtEnd, SavesFirst, TriesToSave}
+use Rattle.program_laws.specs.Disks.{FilesAtEnd, FilesBetween, IsDue, IsGrown, NoDiskFailed, NoPaperFailed, SavesAtEnd, SavesBetween, SavesFirst}
 
 apart : (a b : ℕ) → not (nat_eq a b) ≡ true → a ≢ b
 apart a b is same = true≢false (sym (eq-eqb a b same) ∙ not-true (nat_eq a b) is)
@@ -47,10 +47,10 @@ after-then name s (Err ending) kept after old (Ok is_asked) new p = absurd p
 after-then name s (Err ending) kept after old (Err why) new (is, same, p) = ap (λ (k : SavedPlaces). k.0) same
 
 pub saved-then : (form : ConsoleForm) (steps : ℕ) (s : Console) (kept after : SavedPlaces) (old : List Event) (result : Result Bool Unsaved) (new : List Event) → DoesBetween form steps s kept after old result new
-    → is_due form steps s kept.1 ≡ true → TriesToSave s kept.0 after.0 old
+    → is_due form steps s kept.1 ≡ true → SavesBetween form s kept after old result new
 saved-then form steps s kept after old result new (saved, mid, between, inl (idle, same, p), next) is = absurd (true≢false (sym is ∙ idle))
 saved-then form steps s kept after old result new (saved, mid, between, inr there, next) is =
-    (saved, between, subst (λ (p : Places). SavesDrives s.machine.disk kept.0 p old saved between) (sym (after-then form.ends_with s saved mid after between result new next)) there.saves)
+    (saved, mid, between, subst (λ (p : Places). SavesDrives s.machine.disk kept.0 p old saved between) (sym (after-then form.ends_with s saved mid after between result new next)) there.saves, next)
 
 asks-keep : (name : Option (String Global)) (old : List Event) (is_asked : Bool) (new : List Event) → AsksForEnd name old is_asked new → ChangesNothing old new
 asks-keep None old is_asked new p path = ap (λ (n : List Event). changes_at path n) p.1

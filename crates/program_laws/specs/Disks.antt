@@ -10,7 +10,7 @@ use Rattle.outcome.specs.declared.endings.Ending.TheVariants.{Fault}
 use Rattle.program_tasks.specs.declared.boots.ConsoleForm.{ConsoleForm}
 use Rattle.drive_files.specs.Consoles.{is_at_wait, is_waiting}
 use Rattle.drive_files.specs.Devices.{SavesPapers}
-use Rattle.drive_files.specs.Rounds.{AsksAfter, SavedPlaces}
+use Rattle.drive_files.specs.Rounds.{AsksAfter, DoesAfter, SavedPlaces}
 use Rattle.drive_files.specs.Saving.{SavesDrives}
 use Rattle.drive_files.specs.declared.consoles.Console.{Console}
 use Rattle.drive_files.specs.declared.mounting.Places.{Places}
@@ -25,9 +25,10 @@ pub record IsDue (form : ConsoleForm) (steps : ℕ) (s : Console) (kept : SavedP
   pub changed : s.transfers ≢ kept.1.transfers
   pub waits : is_at_wait s ≡ true
 
--- the disks were saved, or a save of one failed
-abbrev pub TriesToSave : Console → Places → Places → List Event → Type 0
-TriesToSave s places after old = (saved : Result (Unit {0}) Ending) × (new : List Event) × SavesDrives s.machine.disk places after old saved new
+-- between two parts of a run the disks were saved, or a save of one failed, and after that came what comes then
+abbrev pub SavesBetween : ConsoleForm → Console → SavedPlaces → SavedPlaces → List Event → Result Bool Unsaved → List Event → Type 0
+SavesBetween form s kept after old result new = (saved : Result (Unit {0}) Ending) × (mid : SavedPlaces) × (between : List Event)
+    × SavesDrives s.machine.disk kept.0 after.0 old saved between × DoesAfter form.ends_with s saved mid after between result new
 
 -- a disk, and a paper, that could not be saved in a run is none
 abbrev pub NoDiskFailed : Result (Unit {0}) Unsaved → Type 0

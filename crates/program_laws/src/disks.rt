@@ -15,7 +15,7 @@ ghost use Rattle.drive_files.specs.declared.consoles.Console.{Console};
 ghost use Rattle.drive_files.specs.declared.mounting.Places.{Places};
 ghost use Rattle.drive_files.specs.declared.rounds.Unsaved.{Unsaved};
 ghost use Rattle.run_commands.specs.Runs8e.{RunsConsole};
-ghost use Rattle.program_laws.specs.Disks.{FilesAtEnd, FilesBetween, IsDue, IsGrown, NamesDrive, NoDiskFailed, NoPaperFailed, SavesAtEnd, TriesToSave};
+ghost use Rattle.program_laws.specs.Disks.{FilesAtEnd, FilesBetween, IsDue, IsGrown, NamesDrive, NoDiskFailed, NoPaperFailed, SavesAtEnd, SavesBetween};
 
 use byte_reader::ByteReader;
 
@@ -24,7 +24,7 @@ use byte_reader::ByteReader;
 pub fn saved_disks<I: ByteReader>()
     ensures when { (form : Form) (steps : ℕ) (s : Console) (kept : SavedPlaces) → is_due form steps s kept.1 ≡ true → IsDue form steps s kept }
     ensures due { (form : Form) (steps : ℕ) (s : Console) (kept after : SavedPlaces) (old : List Event) (result : Result Bool Unsaved) (new : List Event)
-        → DoesBetween form steps s kept after old result new → is_due form steps s kept.1 ≡ true → TriesToSave s kept.0 after.0 old }
+        → DoesBetween form steps s kept after old result new → is_due form steps s kept.1 ≡ true → SavesBetween form s kept after old result new }
     ensures idle { (form : Form) (steps : ℕ) (s : Console) (kept after : SavedPlaces) (old : List Event) (result : Result Bool Unsaved) (new : List Event)
         → DoesBetween form steps s kept after old result new → is_due form steps s kept.1 ≡ false → is_grown s kept.1 ≡ false → ChangesNothing old new }
     ensures end { (form : Form) (first : Console) (places : Places) (before after : I) (old : List Event) (result : Result (Unit {0}) End) (new : List Event)
