@@ -6,8 +6,9 @@ those of `run_words` do, which is the whole program.
 It fails where that page lacks one of them, and where a type doesn't stand where it is imported from. It fails too where docs/PROVED.md names a file,
 a law or a wrong body that isn't there, and where a sentence of its numbered list names neither a law nor, after the mark that it has none, a definition.
 It fails where a number that definitions of the program cite by name has no law with a numeral, in numbers.rt of program_laws. It fails where the
-page answers fewer questions of a keeper than it did, or more, or where the laws of an answer stand elsewhere than its row says, and where a law
-speaks of a contract that the program doesn't reach. The last line is 'N passed, M failed'.
+page answers fewer questions of a keeper than it did, or more, or where the laws of an answer stand elsewhere than its row says. So it does where a law
+of an answer is read in more files than three (tests/answers.py), and where a law speaks of a contract that the program doesn't reach. The last line
+is 'N passed, M failed'.
 """
 import os
 import re
@@ -17,6 +18,7 @@ from typing import Iterator
 sys.dont_write_bytecode = True
 TOP = os.path.dirname(os.path.dirname(os.path.abspath(__file__)))
 sys.path.insert(0, TOP)
+from tests.answers import far_answers, questions
 from tests.contracts import cited, clauses
 from build.crates import Crates
 from tests.definitions import Found, closure, types, types_in
@@ -178,12 +180,12 @@ def unnumbered() -> Iterator[str]:
 
 def unanswered(page: str) -> Iterator[str]:
     """Whether the page has more or fewer questions of a keeper than it did, and the laws of the answers that do not stand where their rows say."""
-    rows = re.findall(r"(?m)^\| ([^|]+\?) \| [^|]+ \| ([^|]+) \| `([^`|]+)` \|$", page.partition("\n## A keeper's questions\n")[2].partition("\n## ")[0])
+    rows = questions(page)
     if len(rows) != QUESTIONS:
         yield f"the page answers {len(rows)} questions of a keeper, not {QUESTIONS}"
     for question, named, path in rows:
         text = open(f"{TOP}/crates/{path}", encoding="utf-8").read() if os.path.isfile(f"{TOP}/crates/{path}") else ""
-        for name in re.findall(r"`(\w+)`", named) or [""]:
+        for name in named or [""]:
             if not re.search(rf"(?m)^pub fn {name}\b", text):
                 yield f"the answer to this question has its law {name} not in {path}: {question}"
 
@@ -206,7 +208,7 @@ def main() -> int:
         written.write(told)
     with open(PAGE, encoding="utf-8") as text:
         page = text.read()
-    faults = [*missing(page), *unlawful(page), *unanswered(page), *idle_laws(), *unnumbered(), *undeclared(named), *unlisted(told, found, named)]
+    faults = [*missing(page), *unlawful(page), *unanswered(page), *far_answers(page), *idle_laws(), *unnumbered(), *undeclared(named), *unlisted(told, found, named)]
     for fault in faults:
         print(f"check_headline: {fault}")
     print(f"{int(not faults)} passed, {int(bool(faults))} failed")

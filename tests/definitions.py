@@ -33,12 +33,17 @@ def types_in(text: str, importing: str) -> Found:
     return found
 
 
+def owner_or_none(known: Definitions, name: str) -> "str | None":
+    """The record or data type one of whose parts a name is, if one is."""
+    return next((other for other, text in known.texts.items() if re.search(rf"^  (?:pub )?{re.escape(name)} :", text, re.M)), None)
+
+
 def owner_of(known: Definitions, name: str) -> str:
     """The record or data type one of whose parts a name is."""
-    owner = [other for other, text in known.texts.items() if re.search(rf"^  {re.escape(name)} :", text, re.M)]
+    owner = owner_or_none(known, name)
     if not owner:
         raise SystemExit(f"{os.path.relpath(known.path, TOP)} has no {name}")
-    return owner[0]
+    return owner
 
 
 @functools.cache
@@ -47,13 +52,18 @@ def unfolds_to(crate: str, file: str, name: str) -> frozenset[tuple[str, str, st
     known = definitions(crate, file)
     if name not in known.texts:
         return frozenset({known.uses[name] if name in known.uses else (crate, file, owner_of(known, name))})
-    found = Found()
-    for word in set(WORD.findall(known.texts[name])):
+    return names_in(crate, file, name, known.texts[name])
+
+
+def names_in(crate: str, file: str, name: str, text: str) -> frozenset[tuple[str, str, str]]:
+    """The definitions that a text names, of the definition of this name in a file."""
+    known, found = definitions(crate, file), Found()
+    for word in set(WORD.findall(text)):
         if word in known.texts and word != name:
             found.add((crate, file, word))
         elif word in known.uses:
             found.add(known.uses[word])
-    for module, member in re.findall(r"\b(\w+)\.(\w+)", known.texts[name]):
+    for module, member in re.findall(r"\b(\w+)\.(\w+)", text):
         if module in known.modules:
             found.add((*known.modules[module], member))
     return frozenset(found)

@@ -1,5 +1,6 @@
 mod AgainLemmas
 pub mod BackLemmas
+pub mod CallLemmas
 mod ChoiceLemmas
 mod ChangeLemmas
 mod GoneLemmas
@@ -7,13 +8,16 @@ mod GotBackLemmas
 mod CopyLemmas
 mod HeldLemmas
 mod LaidLemmas
+mod LeftLemmas
 mod LineLemmas
 pub mod MakeLemmas
 mod ManyBackLemmas
 pub mod OpenLemmas
 mod PatchLemmas
+mod PlugLemmas
 pub mod PrepareLemmas
 mod PutLemmas
+pub mod QuestionLemmas
 pub mod RefuseLemmas
 mod RefusedLemmas
 mod RescueLemmas

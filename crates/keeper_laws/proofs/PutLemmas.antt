@@ -122,7 +122,7 @@ list-noted : (list : Option (List ℕ)) (old new : List Event) → TellsBadList 
 list-noted None old new p = nothing old new p
 list-noted (Some list) old new (ok, p) = noted ok _ old new p
 
-lists-reject : (texts : TextsForm) → Rejects (TakesLists texts)
+pub lists-reject : (texts : TextsForm) → Rejects (TakesLists texts)
 lists-reject texts old ending new (inl (is, place, first, p)) = (ends-so ending _ is refl, list-noted (slice_get (lists_of texts) place) old new p)
 lists-reject texts old ending new (inr p) = (ends-so ending _ p.0 refl, nothing old new p.1)
 
@@ -385,14 +385,14 @@ many-rejects form files image old ending new (why, puts, inr p) = memory-rejecte
 -- ## The steps before the save
 
 -- the files that were read, and the volume with them
-record PutsReady (form : PutFilesForm) (image : Image) (calls : List Event) (bytes lines : List ℕ) : Type 0 where
-  files : List NewFile
-  given : AreGiven form (paths_of form) files
-  calls_are : calls ≡ given_calls (given_name form) (paths_of form) files
-  stored : ManyImage
-  puts : PutsAll image.bytes.items files (words_of form.info) (Ok stored)
-  bytes_are : bytes ≡ stored.bytes.items
-  lines_are : lines ≡ stored_lines files stored.blocks.items
+pub record PutsReady (form : PutFilesForm) (image : Image) (calls : List Event) (bytes lines : List ℕ) : Type 0 where
+  pub files : List NewFile
+  pub given : AreGiven form (paths_of form) files
+  pub calls_are : calls ≡ given_calls (given_name form) (paths_of form) files
+  pub stored : ManyImage
+  pub puts : PutsAll image.bytes.items files (words_of form.info) (Ok stored)
+  pub bytes_are : bytes ≡ stored.bytes.items
+  pub lines_are : lines ≡ stored_lines files stored.blocks.items
 
 -- they are put
 puts-prepare : (form : PutFilesForm) (image : Image) (files : Vec NewFile) → AreGiven form (paths_of form) files.items
@@ -416,7 +416,7 @@ read-each form old files new p =
       subst (λ (l : List NewFile). IsQuiet (given_calls (given_name form) (paths_of form) l) old new) (sym h.are) h.quiet,
     )
 
-rest-prepares : (form : PutFilesForm) (image : Image) → Prepares image (PutsReady form image) (Then (ReadsEach form [] (paths_of form)) (λ files. PutsFiles form image files.items))
+pub rest-prepares : (form : PutFilesForm) (image : Image) → Prepares image (PutsReady form image) (Then (ReadsEach form [] (paths_of form)) (λ files. PutsFiles form image files.items))
 rest-prepares form image = prepares-then image (PutsReady form image) (ReadsEach form [] (paths_of form)) (λ files. PutsFiles form image files.items)
     (λ files. given_calls (given_name form) (paths_of form) files.items) (λ files. AreGiven form (paths_of form) files.items) (each-rejects form [] (paths_of form))
     (λ old files new p. read-each form old files new p) (λ files given. puts-prepare form image files given)

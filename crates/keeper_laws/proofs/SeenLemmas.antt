@@ -56,7 +56,7 @@ seen-image reading name old file new (inr two) =
     seen-then name old two.between new (seen-if reading.is_lenient reading.layout reading.is_plain name old two.given two.between two.done)
     (still two.between new (judged-still reading name two.given two.between file new two.after))
 
-found-still : (volumes : Volumes) (body : List ℕ) (old : List Event) (found : Vec ℕ) (new : List Event) → FindsIn volumes body old (Ok found) new → new ≡ old
+pub found-still : (volumes : Volumes) (body : List ℕ) (old : List Event) (found : Vec ℕ) (new : List Event) → FindsIn volumes body old (Ok found) new → new ≡ old
 found-still (One layout) body old found new p = p.1
 found-still Both body old found new p = absurd p
 

@@ -40,7 +40,7 @@ pub record BecomesIf (path was file : List ℕ) (old new : List Event) : Type 0 
       → (found ≡ Some file) ⊎ Leaves (ever start (about path old)) found
   pub alone : ChangesNoOther path old new
 
-now-has : (is : Bool) (durability : Durability) (was file : List ℕ) (old new : List Step) → KeepsFile is durability file old new
+pub now-has : (is : Bool) (durability : Durability) (was file : List ℕ) (old new : List Step) → KeepsFile is durability file old new
     → (start : Place) → (replay start old).seen ≡ Just (Some was) → (replay start new).seen ≡ Just (Some file)
 now-has true Certain was file old new kept start had = (kept start).seen
 now-has true Unknown was file old new kept start had = (kept start).seen
@@ -68,7 +68,7 @@ pub only-left : (file : List ℕ) (found : Option (List ℕ)) → Leaves (Just (
 only-left file found (inl is) = is
 only-left file found (inr none) = absurd none
 
-crash-leaves : (file : List ℕ) (old new : List Step) → IsKept Certain file old new → (start : Place) (found : Option (List ℕ)) → Leaves (may_leave (replay start new)) found → found ≡ Some file
+pub crash-leaves : (file : List ℕ) (old new : List Step) → IsKept Certain file old new → (start : Place) (found : Option (List ℕ)) → Leaves (may_leave (replay start new)) found → found ≡ Some file
 crash-leaves file old new kept start found leaves =
     only-left file found (subst (λ e. Leaves (Just (Some file) ∷ e) found) (kept start).earlier (subst (λ d. Leaves (d ∷ (replay start new).earlier) found) (kept start).on_disk leaves))
 
@@ -227,7 +227,7 @@ idle-stay image events = record { files = λ path. unchanged (about path events)
 pub told-place : (why : Reason) (name : List ℕ) (mid new : List Event) → TellsReason why name mid new → may_replace new ≡ may_replace mid
 told-place why name mid new (text, ok, is, p) = ap may_replace p
 
-told-reads : (why : Reason) (name : List ℕ) (mid new : List Event) → TellsReason why name mid new → read new ≡ read mid
+pub told-reads : (why : Reason) (name : List ℕ) (mid new : List Event) → TellsReason why name mid new → read new ≡ read mid
 told-reads why name mid new (text, ok, is, p) = ap read p
 
 writes-ends : (image : Image) (was bytes line file : List ℕ) (old : List Event) (ending : Ending) (new : List Event) → image.place.is_held ≡ true
@@ -308,7 +308,7 @@ becomes path other was file calls old mid new quiet is b = subst (λ (p : List �
   few : warnings (errors new) ≡ warnings (errors old) → warnings (errors new) ≤ warnings (errors mid)
   few silent = subst (λ (n : ℕ). n ≤ warnings (errors mid)) (sym silent) quiet.warns
 
-held-path : (place : ImagePlace) (name : List ℕ) → place.is_held ≡ true → looked_name place name ≡ place.path.bytes.items
+pub held-path : (place : ImagePlace) (name : List ℕ) → place.is_held ≡ true → looked_name place name ≡ place.path.bytes.items
 held-path place name is = ap (λ (b : Bool). if b then place.path.bytes.items else name) is
 
 gets-volume : FindsSaved → FindsUnsaved → (form : ImageForm) (image : Image) (bytes : List ℕ) (calls old opened_at mid new : List Event) (o : HasOpened form old image opened_at) → IsQuiet calls old mid

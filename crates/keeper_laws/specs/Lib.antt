@@ -6,6 +6,7 @@ pub mod GettingBack
 pub mod Held
 pub mod Laid
 pub mod Made
+pub mod Questions
 pub mod Seen
 pub mod Sound
 pub mod Stored

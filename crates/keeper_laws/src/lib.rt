@@ -3,5 +3,6 @@
 
 pub mod folders;
 pub mod laws;
+pub mod questions;
 pub mod texts;
 pub mod verb_laws;
