@@ -3,8 +3,8 @@
 # an 8/I and as an 8/E, and by SIMH: the six of bench/cpu/ that go on, and the ten that bench/draw_programs.py draws from the seed, which is any word.
 # They must end in the same registers. Prints the processor seconds of each, less those of a program that stops at once, the least of three alternate
 # runs, and how many times as fast the 8/E is as the 8/I and as SIMH. Then a disk boots whose program reads each of its 6496 sectors, counts its first
-# word and writes it back, here and in SIMH. Last come the wall milliseconds in which `boot` opens a pack, and in which it saves one. Takes simh and
-# palbart from Debian's packages where they are missing.
+# word and writes it back, here and in SIMH. Then a program prints by interrupts with the clock on. Last come the wall milliseconds in which `boot`
+# opens a pack, and in which it saves one. Takes simh and palbart from Debian's packages where they are missing.
 set -eu
 top=$(cd "$(dirname "${BASH_SOURCE[0]}")/.." && pwd)
 # shellcheck disable=SC2034  # bench/programs.sh reads it
@@ -57,6 +57,14 @@ plain 'attach rk0 whole' 'boot rk0' 'ex pc' >pack.sim
 boot_look
 read -r a b c <<<"$(alternate 3 'boot_ours >/dev/null' 'boot_look >/dev/null' 'boot_simh >/dev/null')"
 printf '12992 transfers: %.3f s, with --look %.3f s, SIMH %.3f s\n' "$a" "$b" "$c"
+
+# the clock ticks after each 5000 instructions here, and sixty times a second in SIMH
+"$program" assemble --pal8 "$top/bench/clock.pa" -o clock.bin
+plain 'load clock.bin' 'go 200' 'ex ac' >clock.sim
+run_clock() { "$program" teletype clock.bin --cpu 8e --clock 5000 --start 00200 </dev/null 2>&1; }
+run_clock | tail -n 1
+read -r a b <<<"$(alternate 3 'run_clock >/dev/null' 'run_simh clock >/dev/null')"
+printf 'printing by interrupts with the clock on: %.3f s, SIMH %.3f s\n' "$a" "$b"
 
 # The wall milliseconds of a call of the program, the least of ten.
 milliseconds() {
