@@ -1,7 +1,7 @@
 """What the checks that run a program share: counts of what they tried, by kind, cases of which each ends with what is wrong, and runs that end in time."""
 import subprocess
 from collections import Counter
-from typing import Any, Callable
+from typing import Any, Callable, Iterator
 
 
 class Tally:
@@ -39,6 +39,18 @@ def fault_in(case: Callable[[], str]) -> str:
         return f"no end within {late.timeout} seconds"
     except Exception as broken:
         return f"the case broke off: {broken!r}"
+
+
+def gathered(kind: str, cases: Iterator[tuple[str, str]]) -> list[tuple[str, str]]:
+    """What each of several cases finds wrong, by its kind. What breaks them off is a fault of this kind."""
+    found = list[tuple[str, str]]()
+
+    def gather() -> str:
+        found.extend(cases)
+        return ""
+
+    broken = fault_in(gather)
+    return [*found, *([(kind, broken)] if broken else [])]
 
 
 def run_in_time(words: list[str], seconds: float, **how: Any) -> subprocess.CompletedProcess[str]:

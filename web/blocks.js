@@ -1,7 +1,7 @@
 // The picture of a volume: a square for each block, by the lines of `check`. The sectors of a drive are drawn so, too.
 import { $, made } from './dom.js';
 
-const COLOURS = ['directory', 'file', 'file-2', 'found', 'empty', 'outside', 'fault', 'paper'];
+const COLOURS = ['directory', 'file', 'file-2', 'found', 'read', 'empty', 'outside', 'fault', 'paper'];
 
 /** @typedef {import('./files.js').Entry} Entry */
 
@@ -112,11 +112,12 @@ export function squares(canvas, kinds, least = 6) {
     return { across, side };
 }
 
-// A mark in a square, so no kind is known by its colour alone: a bar, a bar that stands, a hole, or a cross.
+// A mark in a square, so no kind is known by its colour alone: a bar, a bar that stands, one along its upper side, a hole, or a cross.
 /** @param {CanvasRenderingContext2D} brush @param {string} kind @param {number} x @param {number} y @param {number} width @param {number} height */
 function mark(brush, kind, x, y, width, height) {
     if (kind === 'directory') brush.fillRect(x, y + height * 0.4, width, height * 0.2);
     if (kind === 'found') brush.fillRect(x + width * 0.4, y, width * 0.2, height);
+    if (kind === 'read') brush.fillRect(x, y, width, height * 0.3);
     if (kind === 'outside') brush.fillRect(x + width * 0.3, y + height * 0.3, width * 0.4, height * 0.4);
     if (kind !== 'fault') return;
     brush.lineWidth = Math.max(1, width / 6);

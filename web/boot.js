@@ -4,6 +4,8 @@ import { Drives, SECTOR, isEmpty } from './drives.js';
 
 const MOST = 6496 * SECTOR;
 const DISKS = ids('drive-0', 'drive-1', 'drive-2', 'drive-3'), LOCKS = ids('lock-0', 'lock-1', 'lock-2', 'lock-3');
+// The file that gets the lines of transfers. It is none of the page's.
+const TRANSFERS = '.transfers';
 // What is said of the disk in each; that in drive 0 is what boots.
 const WORDS = ['boot', '--rk1', '--rk2', '--rk3'];
 
@@ -71,13 +73,17 @@ export class Boot {
         const { teletype, claims, machine, undo, store } = this.page, [{ name: title, isLook }] = disks;
         const holds = isLook ? [] : disks.filter(it => !it.isLocked).map(it => it.name);
         const words = [...disks.flatMap(it => [WORDS[it.number], it.name]), ...disks.filter(it => it.isLocked).map(it => `--lock=${it.number}`),
-            isLook ? '--look' : '--every=1', `--switches=${octal(machine.panel.switches, 4)}`];
+            isLook ? '--look' : '--every=1', `--switches=${octal(machine.panel.switches, 4)}`, '--transfers', TRANSFERS];
         for (const it of holds) claims.claim(`volume ${it}`);
         const begun = holds.filter(it => undo.begin(it, `the boot of ${title}`));
         this.lengths = new Map(holds.map(it => [it, store.files.get(it)?.length]));
         this.drives.begin(disks);
         await teletype.boot(words, {
             title, holds, told: isLook ? 'It is only looked at: nothing that it writes is kept. Stop ends it.' : 'Stop saves it, and ends it.',
+            takes: (name, bytes) => {
+                if (name === TRANSFERS && bytes) this.drives.hear(bytes);
+                return name === TRANSFERS;
+            },
             ended: () => {
                 for (const it of begun) undo.end(it);
                 this.lengths.clear();

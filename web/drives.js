@@ -1,7 +1,8 @@
 // The drives of a machine that boots, beside its console: their lamps, and a picture of their sectors. Of what moves the page sees the sectors that were
-// changed, each time that the program saves them.
+// changed, each time that the program saves them, and those that were read, by the lines that it writes of its transfers.
 import { $, made } from './dom.js';
 import { squares } from './blocks.js';
+import { textOf } from './program.js';
 
 /** @typedef {{ number: number, name: string, isLocked: boolean, isLook: boolean }} Disk */
 
@@ -10,16 +11,20 @@ export const SECTOR = 512;
 const LIT = 1000, NAMED = 8, HIGH = 210, LOW = 100;
 
 const counted = (/** @type {number} */ count) => `${count} ${count === 1 ? 'sector' : 'sectors'}`;
+const named = (/** @type {Set<number>} */ last) => `last ${[...last].slice(0, NAMED).join(', ')}${last.size > NAMED ? ' and more' : ''}`;
 
 class Drive {
     /** @type {Set<number>} */
     written = new Set();
     /** @type {Set<number>} */
     last = new Set();
-    timer = 0;
+    /** @type {Set<number>} */
+    read = new Set();
+    /** @type {Set<number>} */
+    lastRead = new Set();
     canvas = made('canvas', { role: 'img', width: 800, height: 10 });
     words = made('span', { class: 'quiet' });
-    lamps = { run: lamp('Run'), write: lamp('Write'), locked: lamp('Wt prot') };
+    lamps = { run: lamp('Run'), read: lamp('Read'), write: lamp('Write'), locked: lamp('Wt prot') };
 
     /** @param {Disk} disk @param {Uint8Array} image @param {number} high */
     constructor(disk, image, high) {
@@ -43,9 +48,18 @@ class Drive {
         this.last = last;
         for (const it of last) this.written.add(it);
         this.empty = Array.from({ length: image.length / SECTOR }, (_, sector) => last.has(sector) ? isEmpty(image, sector) : this.empty[sector] ?? true);
-        light(this.lamps.write, true);
-        clearTimeout(this.timer);
-        this.timer = window.setTimeout(() => light(this.lamps.write, false), LIT);
+        flash(this.lamps.write);
+        this.#tell();
+        this.draw();
+    }
+
+    // Shows which sectors were read.
+    /** @param {number[]} sectors */
+    hear(sectors) {
+        if (!sectors.length) return;
+        this.lastRead = new Set(sectors);
+        for (const it of sectors) this.read.add(it);
+        flash(this.lamps.read);
         this.#tell();
         this.draw();
     }
@@ -60,16 +74,17 @@ class Drive {
     }
 
     #tell() {
-        const { isLocked, isLook } = this.disk, { last } = this, named = `${[...last].slice(0, NAMED).join(', ')}${last.size > NAMED ? ' and more' : ''}`;
-        this.words.textContent = isLook ? 'only looked at' : isLocked ? 'locked: nothing is changed' : last.size ? `${counted(this.written.size)} changed and saved, last ${named}` : 'nothing changed yet';
+        const { isLocked, isLook } = this.disk, { last, written, read, lastRead } = this;
+        const changes = isLook ? 'only looked at' : isLocked ? 'locked: nothing is changed' : last.size ? `${counted(written.size)} changed and saved, ${named(last)}` : 'nothing changed yet';
+        this.words.textContent = read.size ? `${changes}; ${counted(read.size)} read, ${named(lastRead)}` : changes;
         this.canvas.setAttribute('aria-label', `Drive ${this.disk.number}, ${counted(this.empty.length)}: ${this.words.textContent}`);
     }
 
     // Draws the sectors, as large as the picture may be high.
     draw() {
-        const { last, written, canvas } = this, width = canvas.clientWidth, count = this.empty.length;
+        const { last, lastRead, written, canvas } = this, width = canvas.clientWidth, count = this.empty.length;
         const least = [6, 5, 4].find(it => Math.ceil(count / Math.floor(width / it)) * it <= this.high) ?? 3;
-        if (width) squares(canvas, this.empty.map((isEmpty, sector) => last.has(sector) ? 'directory' : written.has(sector) ? 'found' : isEmpty ? 'empty' : 'file'), least);
+        if (width) squares(canvas, this.empty.map((isEmpty, sector) => last.has(sector) ? 'directory' : lastRead.has(sector) ? 'read' : written.has(sector) ? 'found' : isEmpty ? 'empty' : 'file'), least);
     }
 }
 
@@ -77,6 +92,8 @@ export class Drives {
     /** @type {Drive[]} */
     #all = [];
     #isOn = false;
+    // How much of the lines of transfers is known.
+    #heard = 0;
 
     /** @param {import('./store.js').Store} store */
     constructor(store) {
@@ -90,6 +107,7 @@ export class Drives {
     begin(disks) {
         this.#all = disks.map(it => new Drive(it, this.store.files.get(it.name) ?? new Uint8Array(0), disks.length > 1 ? LOW : HIGH));
         this.#isOn = true;
+        this.#heard = 0;
         $('drive-list').replaceChildren(...this.#all.map(it => it.element));
         $('drives').hidden = false;
     }
@@ -98,6 +116,14 @@ export class Drives {
     #see(name) {
         const drive = this.#all.find(it => it.disk.name === name), image = this.store.files.get(name);
         if (this.#isOn && image) drive?.see(image);
+    }
+
+    // Shows what was read, by the lines of all transfers so far: `RK 0 read 00012 00400 256`, of drive and sector.
+    /** @param {Uint8Array} lines */
+    hear(lines) {
+        const reads = [...textOf(lines.subarray(this.#heard)).matchAll(/^RK (\d) read (\d+)/gm)];
+        this.#heard = lines.length;
+        for (const it of this.#all) it.hear(reads.filter(([, drive]) => Number(drive) === it.disk.number).map(([, , sector]) => parseInt(sector, 8)));
     }
 
     // They stand. Gives what was written, in words.
@@ -115,6 +141,16 @@ function lamp(text) { return made('span', { class: 'drive-lamp', role: 'img', 'a
 function light(it, isLit) {
     it.querySelector('.lamp')?.classList.toggle('on', isLit);
     it.setAttribute('aria-label', `${it.textContent} ${isLit ? 'on' : 'off'}`);
+}
+
+// Lights a lamp for a while, anew where it is lit.
+/** @type {Map<Element, number>} */
+const timers = new Map();
+/** @param {Element} it */
+function flash(it) {
+    light(it, true);
+    clearTimeout(timers.get(it));
+    timers.set(it, window.setTimeout(() => { light(it, false); timers.delete(it); }, LIT));
 }
 
 // Whether a sector of an image has no word but 0.

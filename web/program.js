@@ -145,8 +145,8 @@ export class Programs extends EventTarget {
 // One run. `heard` and `said` take what it writes to standard output and to standard error. `ended` takes its status, null where it was stopped or
 // has failed, and why it failed, null where it hasn't. `room` is how many bytes it may be ahead of what `show` was given, none for no limit.
 // `patience` is after how many milliseconds a read gives nothing. `holds` are the files that it holds, else those of a `run` that changes them. `ends`
-// is the name of a file by which it is asked for its end. `again` has the reads of a run that this one follows, and `read` takes each further
-// one that gives bytes, after how many that gave none.
+// is the name of a file by which it is asked for its end. `takes` takes a file that it has written, and says whether that is none of the page's.
+// `again` has the reads of a run that this one follows, and `read` takes each further one that gives bytes, after how many that gave none.
 export class Run {
     /** @type {Uint8Array[]} */
     #queue = [];
@@ -182,7 +182,8 @@ export class Run {
     /** @param {any} data */
     #take(data) {
         if (!this.isLive) return;
-        if (data.files) for (const [name, bytes] of data.files) bytes ? this.programs.store.put(name, bytes) : this.programs.store.remove(name);
+        const { store } = this.programs;
+        if (data.files) for (const [name, bytes] of data.files) this.how.takes?.(name, bytes) || (bytes ? store.put(name, bytes) : store.remove(name));
         else if (data.wants) {
             this.#isWanted = true;
             this.#give();

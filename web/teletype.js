@@ -113,7 +113,7 @@ export class Teletype {
             said: bytes => { said += textOf(bytes); },
             ended: status => this.#ended(status, said),
             read: (quiet, keys) => this.reads.read(quiet, keys),
-            room: 4096, patience: 16, again: this.reads.again, ...(booted ? { holds: booted.holds, ends: ENDS } : {}),
+            room: 4096, patience: 16, again: this.reads.again, ...(booted ? { holds: booted.holds, ends: ENDS, takes: booted.takes } : {}),
         };
         tell('tty-status', booted ? `${booted.title} is booted. ${booted.told}` : 'running');
         this.run = await this.page.programs.begin(words, how);

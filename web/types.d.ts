@@ -24,10 +24,11 @@ interface Claim { has: boolean; leave: () => void; known: Promise<void> }
 interface How {
     heard?: (bytes: Uint8Array, reads: number, quiet: number) => void; said?: (bytes: Uint8Array) => void; ended?: (status: number | null, failed: string | null) => void;
     input?: Uint8Array | null; terminal?: boolean; room?: number; patience?: number;
-    again?: [number, Uint8Array][]; read?: (quiet: number, bytes: Uint8Array) => void; holds?: string[]; ends?: string;
+    again?: [number, Uint8Array][]; read?: (quiet: number, bytes: Uint8Array) => void; holds?: string[]; ends?: string; takes?: (name: string, bytes: Uint8Array | null) => boolean;
 }
-// A disk that boots: its name, the files that its program holds, how it is worked, in words, and what is said first of how it ended.
-interface Booted { title: string; holds: string[]; told: string; ended: () => string }
+// A disk that boots: its name, the files that its program holds, how it is worked, in words, what takes a file that is none of the page's, and what is
+// said first of how it ended.
+interface Booted { title: string; holds: string[]; told: string; takes: (name: string, bytes: Uint8Array | null) => boolean; ended: () => string }
 interface Answer { status: number | null; out: Uint8Array; said: string }
 
 // What the keys of the panel do.

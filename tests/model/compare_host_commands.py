@@ -2,7 +2,8 @@
 """compare_host_commands.py [--program FILE] [--cases N] [--seed S]: assembles random sources of the host, and runs random programs at the Teletype.
 It traces and profiles them, and writes the sources of random tapes. All is done with the program `pdp8`, N of each, 300 from 1 on where nothing is
 said. It compares every byte that comes with a plain assembler, a plain machine and a plain listing that are written from the definitions alone. A
-source is assembled again. The same number is the same case each time. The last line is 'N passed, M failed'.
+source is assembled again. Of the runs at the Teletype those are counted that have a note of a device that isn't there, and those with the most such
+notes. The same number is the same case each time. The last line is 'N passed, M failed'.
 """
 import argparse
 import concurrent.futures
@@ -22,13 +23,14 @@ from tests.model.flow import reached
 from tests.model.listing import Listing
 from tests.model.names import names_in, random_names
 from tests.model.host_sources import Told, assembled_host
+from tests.model.machine import MOST_NOTES, Machine
 from tests.model.sources import source, tape
 from tests.model.tape import meaning_of, tape_of
 from tests.model.terminal import Sitting, sat
 from tests.model.traces import profiled, traced
 from tests.model.words import octal
 from tests.options import patience
-from tests.tally import Tally, fault_in
+from tests.tally import Tally, gathered
 
 REFUSALS = {
     "no cell with a name": "1 BAD LINE",
@@ -39,6 +41,9 @@ REFUSALS = {
     "no word in the cell": "6 NO WORD",
 }
 ECHO = [0o6031, 0o5200, 0o6036, 0o6046, 0o6041, 0o5204, 0o5200]
+ABSENT = [0o6000 + 8 * it for it in range(0o100) if it not in Machine.devices]
+# What stands between IOTs of these: a character is printed, and interrupts are on and off.
+BETWEEN = [0o6001, 0o6002, 0o6041, 0o6042, 0o6046, 0o6211, 0o7001, 0o7004]
 
 
 def run(program: str, words: list[str], folder: str, given: bytes = b"") -> tuple[bytes, bytes, int]:
@@ -82,6 +87,13 @@ def assembles(program: str, seed: int) -> str:
     return ""
 
 
+def asking(random: Random, first: int, count: int) -> list[int]:
+    """A loop of so many words, most of which are IOTs of devices that aren't there."""
+    absent = random.sample(ABSENT, random.choice([2, 8, 9, 20]))
+    words = [random.choice(absent) + random.choice([1, random.randrange(8)]) if random.random() < 0.7 else random.choice(BETWEEN) for _ in range(count - 1)]
+    return [*words, 0o5000 + first % 128 + (0o200 if first else 0)]
+
+
 def random_tape(random: Random) -> list[int]:
     """A program of random words, one that echoes, or a tape that may be none."""
     kind = random.random()
@@ -94,6 +106,8 @@ def random_tape(random: Random) -> list[int]:
     place = random.randrange(count - 4)
     if random.random() < 0.8:
         words[place : place + 3] = [0o6031, 0o5000 + (first + place) % 128 + (0o200 if first else 0), random.choice([0o6036, 0o6032, 0o6034])]
+    if random.random() < 0.5:
+        words = asking(random, first, count)
     if random.random() < 0.4:
         words[0:1] = [0o6001]
     fields = random.sample([0, 0o10000, 0o20000], 2)
@@ -109,8 +123,8 @@ def sitting_of(random: Random) -> Sitting:
     return Sitting(random_tape(random), keys, random.random() < 0.3, start, random.choice([0, 0, 0o5252]), random.choice([1, 50, 1000, 100000]))
 
 
-def sits(program: str, seed: int) -> str:
-    """The same of a random program at the Teletype."""
+def sits(program: str, seed: int) -> Iterator[tuple[str, str]]:
+    """The same of a random program at the Teletype, and whether it has notes of devices that aren't there."""
     sitting = sitting_of(Random(seed))
     wanted = sat(sitting)
     words = ["teletype", "TAPE", "--steps", str(sitting.steps), *(["--raw"] if sitting.is_raw else [])]
@@ -121,7 +135,12 @@ def sits(program: str, seed: int) -> str:
             file.write(bytes(sitting.frames))
         got = run(program, words, folder, sitting.keys)
     got = got[0], without_kind(got[1]), got[2]
-    return "" if got == wanted else f"{sitting}\n    wanted {wanted}\n    got {got}"
+    yield "sittings", "" if got == wanted else f"{sitting}\n    wanted {wanted}\n    got {got}"
+    notes = wanted[1].count(b"note: no device ")
+    if notes:
+        yield "with a note", ""
+    if notes == MOST_NOTES:
+        yield "with the most notes", ""
 
 
 def without_kind(errors: bytes) -> bytes:
@@ -228,19 +247,27 @@ def lists(program: str, seed: int) -> Iterator[tuple[str, str]]:
     yield "listings", f"{starts}: {wrong}" if wrong else ""
 
 
-CASES: dict[str, Callable[[str, int], str]] = {"sources": assembles, "sittings": sits, "traces": functools.partial(traces, "trace"), "profiles": functools.partial(traces, "profile")}
+def alone(kind: str, case: Callable[[str, int], str]) -> Callable[[str, int], Iterator[tuple[str, str]]]:
+    """A case that is of one kind."""
+
+    def cases(program: str, seed: int) -> Iterator[tuple[str, str]]:
+        yield kind, case(program, seed)
+
+    return cases
+
+
+CASES: dict[str, Callable[[str, int], Iterator[tuple[str, str]]]] = {
+    "sources": alone("sources", assembles),
+    "sittings": sits,
+    "traces": alone("traces", functools.partial(traces, "trace")),
+    "profiles": alone("profiles", functools.partial(traces, "profile")),
+    "listings": lists,
+}
 
 
 def tried(program: str, seed: int) -> list[tuple[str, str]]:
     """What was tried by a seed, each by its kind and with what is wrong."""
-    found = [(kind, fault_in(functools.partial(case, program, seed))) for kind, case in CASES.items()]
-
-    def listed() -> str:
-        found.extend(lists(program, seed))
-        return ""
-
-    broken = fault_in(listed)
-    return [*found, *([("listings", broken)] if broken else [])]
+    return [it for kind, cases in CASES.items() for it in gathered(kind, cases(program, seed))]
 
 
 def main() -> int:

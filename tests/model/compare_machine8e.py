@@ -1,9 +1,10 @@
 #!/usr/bin/env python3
 """compare_machine8e.py [--program FILE] [--runs N] [--seed S]: makes N random programs of an 8/E with disks, a reader, a punch, a line printer and a
 clock, 300 where nothing is said. It traces each with the program and in the plain model. The lines of their steps must be the same but for the spelled
-instructions, and so must be what punch, line printer and disks have at the end. A third of them it also runs at the Teletype, where steps are made several
-at once: what they print, their last line, their papers and their disks must be the model's. The same number is the same programs each time. The last
-line is 'N passed, M failed'.
+instructions, and so must be what punch, line printer and disks have at the end, and the lines of transfers. A third of them it also runs at the
+Teletype, where steps are made several at once: what they print, the notes of devices that aren't there, their last line, their papers and their disks
+must be the model's. These it runs without any device too. Runs with a note, and with the most notes, are counted. The same number is the same programs
+each time. The last line is 'N passed, M failed'.
 """
 import argparse
 import copy
@@ -13,23 +14,27 @@ import subprocess
 import sys
 import tempfile
 from random import Random
+from typing import Iterator
 
 sys.dont_write_bytecode = True
 TOP = os.path.dirname(os.path.dirname(os.path.dirname(os.path.abspath(__file__))))
 sys.path.insert(0, TOP)
-from tests.model.devices8e import FullMachine8e
-from tests.model.machine8e import Drive
+from tests.model.devices8e import BareMachine8e, FullMachine8e
+from tests.model.machine import MOST_NOTES
+from tests.model.machine8e import Drive, Machine8e
 from tests.model.programs8e import file_of, images, program
 from tests.model.tape import tape_of
 from tests.model.traces import changed_cells, character
 from tests.model.words import octal
 from tests.options import patience
-from tests.tally import Tally, fault_in
+from tests.tally import Tally, fault_in, gathered
 
 START, STEPS, KSF = 0o200, 300, 0o6031
 # The most steps of a run at the Teletype.
 LIMIT = 10_000
 DEVICES = [0o6010, 0o6020, 0o6130, 0o6660]
+# Some that no machine here has.
+ABSENT = [0o6050, 0o6070, 0o6100, 0o6170, 0o6300, 0o6370, 0o6400, 0o6500, 0o6600, 0o6650, 0o6670, 0o6730, 0o6750, 0o6770]
 
 
 class Case:
@@ -38,14 +43,27 @@ class Case:
     def __init__(self, random: Random) -> None:
         self.words = program(random)
         if random.random() < 0.5:
-            for cell in self.words:
-                if cell >= START and self.words[cell] >> 9 != 0o5 and random.random() < 0.35:
-                    self.words[cell] = random.choice(DEVICES) + random.randrange(8)
+            self.lay(random, DEVICES, 0.35)
+        if random.random() < 0.5:
+            self.lay(random, ABSENT, random.choice([0.02, 0.35]))
         self.frames = [random.randrange(256) for _ in range(random.randrange(5))]
         self.period = random.choice([None, 1, 2, 3, 5, 7, 40, 1000])
         self.has_paper = random.random() < 0.5
         self.images = images(random)
         self.times = random.choice([(10, 10), (0, 0), (3, 1), (25, 2)])
+
+    def lay(self, random: Random, devices: list[int], part: float) -> None:
+        """Puts IOTs of these devices in the place of a part of the words."""
+        for cell in self.words:
+            if cell >= START and self.words[cell] >> 9 != 0o5 and random.random() < part:
+                self.words[cell] = random.choice(devices) + random.randrange(8)
+
+    def bare_machine(self) -> BareMachine8e:
+        machine = BareMachine8e()
+        for cell, word in self.words.items():
+            machine.core[cell] = word
+        machine.start(START)
+        return machine
 
     def machine(self) -> FullMachine8e:
         machine = FullMachine8e()
@@ -67,12 +85,12 @@ class Case:
         return [word for number, it in enumerate(self.images) if it is not None for word in (f"--rk{number}", f"D{number}")]
 
     def options(self, steps: int) -> list[str]:
-        """The options of a run of so many steps at most."""
+        """The options of a run of so many steps at most, with all that the machine has."""
         disks = self.disks()
         paper = ["--printer", "PRINTER"] if self.has_paper else []
         clock = ["--clock", str(self.period)] if self.period else []
         times = ["--disk-time", str(self.times[0]), "--seek-time", str(self.times[1])]
-        return ["--cpu", "8e", "--start", "200", "--steps", str(steps), "--reader", "READER", "--punch", "PUNCH", *paper, *clock, *disks, *times]
+        return [*bare_options(steps), "--reader", "READER", "--punch", "PUNCH", "--transfers", "MOVES", *paper, *clock, *disks, *times]
 
     def wanted_disks(self, machine: FullMachine8e) -> dict[str, bytes]:
         """What the files of the disks hold after a run."""
@@ -80,7 +98,13 @@ class Case:
 
     def wanted_files(self, machine: FullMachine8e) -> dict[str, bytes]:
         """What the files hold that a run may change."""
-        return {"PUNCH": bytes(machine.punched), **({"PRINTER": bytes(machine.lined)} if self.has_paper else {}), **self.wanted_disks(machine)}
+        moves = "".join(f"{it}\n" for it in machine.all_moves).encode()
+        return {"PUNCH": bytes(machine.punched), "MOVES": moves, **({"PRINTER": bytes(machine.lined)} if self.has_paper else {}), **self.wanted_disks(machine)}
+
+
+def bare_options(steps: int) -> list[str]:
+    """Those of a machine that has nothing."""
+    return ["--cpu", "8e", "--start", "200", "--steps", str(steps)]
 
 
 def lay(folder: str, files: dict[str, bytes]) -> None:
@@ -147,33 +171,51 @@ def compared(program: str, seed: int) -> str:
     return f"seed {seed}: {other} has other bytes" if other else ""
 
 
-def last_line(machine: FullMachine8e, why: str | None) -> str:
+def last_line(machine: Machine8e, why: str | None) -> str:
     """The last line of a run at the Teletype that ends so."""
     place = octal(machine.here, 5)
     return f"HALT {place} AC {octal(machine.ac, 4)} L {machine.link} MQ {octal(machine.mq, 4)}" if why else f"LIMIT {place}"
 
 
-def compared_at_teletype(program: str, seed: int) -> str:
-    """What is wrong with the run of a random program at the Teletype, at which no key is struck."""
-    case = Case(Random(seed))
-    machine, why = case.machine(), None
+def run_at_teletype(machine: Machine8e) -> str | None:
+    """Makes the steps of a run at the Teletype, at which no key is struck. Says why it ended before so many steps were made."""
     for _ in range(LIMIT):
         machine.begin()
-        why = machine.step()
-        if why:
-            break
+        if why := machine.step():
+            return why
+    return None
+
+
+def wrong_run(machine: Machine8e, why: str | None, done: subprocess.CompletedProcess[bytes]) -> str:
+    """What is wrong with a run at the Teletype, beside what it leaves in files."""
+    *before, got = done.stderr.decode("latin1").splitlines() or [""]
+    waits = got.startswith("KEYS END ") and machine.here - int(got.split()[-1], 8) in (0, 1)
+    if done.returncode != got.startswith("LIMIT") or not (waits or got == last_line(machine, why)):
+        return f"the status is {done.returncode}, and it ends with {got}, not {last_line(machine, why)}"
+    notes = "".join(f"{it}\n" for it in before if it.startswith("note: no device "))
+    if notes != machine.notes():
+        return f"its notes are {notes!r}, not {machine.notes()!r}"
     printed = bytes(it & 0o177 for it in machine.printed if it & 0o177)
-    with tempfile.TemporaryDirectory(prefix="pdp8-machine8e-") as folder:
-        lay(folder, case.files())
-        done = subprocess.run([program, "teletype", "TAPE", *case.options(LIMIT)], cwd=folder, stdin=subprocess.DEVNULL, capture_output=True, timeout=patience(120))
-        got = (done.stderr.decode("latin1").splitlines() or [""])[-1]
-        waits = got.startswith("KEYS END ") and machine.here - int(got.split()[-1], 8) in (0, 1)
-        if done.returncode != got.startswith("LIMIT") or not (waits or got == last_line(machine, why)):
-            return f"seed {seed}: at the Teletype the status is {done.returncode}, and it ends with {got}, not {last_line(machine, why)}"
-        if done.stdout != printed:
-            return f"seed {seed}: at the Teletype it prints {done.stdout!r}, not {printed!r}"
-        other = other_file(folder, case.wanted_files(machine))
-    return f"seed {seed}: at the Teletype {other} has other bytes" if other else ""
+    return "" if done.stdout == printed else f"it prints {done.stdout!r}, not {printed!r}"
+
+
+def runs_at_teletype(program: str, seed: int) -> Iterator[tuple[str, str]]:
+    """What is wrong with the run of a random program at the Teletype, at which no key is struck; and with that on a machine without devices. Each by its
+    kind."""
+    case = Case(Random(seed))
+    full, bare = case.machine(), case.bare_machine()
+    for kind, machine, options in (("runs at the Teletype", full, case.options(LIMIT)), ("runs without devices", bare, bare_options(LIMIT))):
+        why = run_at_teletype(machine)
+        with tempfile.TemporaryDirectory(prefix="pdp8-machine8e-") as folder:
+            lay(folder, case.files())
+            done = subprocess.run([program, "teletype", "TAPE", *options], cwd=folder, stdin=subprocess.DEVNULL, capture_output=True, timeout=patience(120))
+            wrong = wrong_run(machine, why, done)
+            other = other_file(folder, case.wanted_files(full)) if machine is full and not wrong else ""
+        yield kind, f"seed {seed}: at the Teletype {wrong or f'{other} has other bytes'}" if wrong or other else ""
+        if machine.absent:
+            yield "with a note", ""
+        if len(machine.absent) > MOST_NOTES:
+            yield "with the most notes", ""
 
 
 def main() -> int:
@@ -186,7 +228,8 @@ def main() -> int:
     for seed in range(options.seed, options.seed + options.runs):
         tally.add("traces", fault_in(functools.partial(compared, os.path.abspath(options.program), seed)))
     for seed in range(options.seed, options.seed + (options.runs + 2) // 3):
-        tally.add("runs at the Teletype", fault_in(functools.partial(compared_at_teletype, os.path.abspath(options.program), seed)))
+        for kind, fault in gathered("runs at the Teletype", runs_at_teletype(os.path.abspath(options.program), seed)):
+            tally.add(kind, fault)
     return tally.end()
 
 

@@ -1,11 +1,14 @@
 """The PDP-8/E with a PC8-E reader and punch, an LE8 line printer and a DK8-EA clock, by the tables of its handbooks. With `peer` it takes SIMH's side
 in one thing more: CAF begins the clock's count anew."""
+from tests.model.machine import Machine
 from tests.model.machine8e import Machine8e
 from typing import Optional
 
 
 class FullMachine8e(Machine8e):
     """What the 8/E has beside its drives, and what it has punched and printed on its line printer."""
+
+    devices = Machine8e.devices | {0o01, 0o02, 0o13, 0o66}
 
     def __init__(self, is_peer: bool = False) -> None:
         self.tape: list[int] = []
@@ -115,3 +118,12 @@ class FullMachine8e(Machine8e):
             self.skip(self.clock_flag)
         if pulses in (3, 6):
             self.clock_flag = False
+
+
+class BareMachine8e(Machine8e):
+    """The 8/E without drives and without these devices, as it is where none is asked for."""
+
+    devices = Machine.devices
+
+    def disk(self, pulses: int) -> None:
+        """Nothing, as no disk is there."""

@@ -6,8 +6,14 @@ from tests.model.words import octal
 HALT, UNASSIGNED, BREAK, LIMIT = "HALT", "UNASSIGNED", "BREAK", "LIMIT"
 
 
+# A run's notes are about so many devices at most.
+MOST_NOTES = 8
+
+
 class Machine:
-    """Core, registers and flags; the characters that were printed, and the breaks."""
+    """Core, registers and flags; the characters that were printed, and the breaks. The first IOT of each device that isn't there is kept by its device."""
+
+    devices = frozenset([0o00, 0o03, 0o04, *range(0o20, 0o30)])
 
     def __init__(self) -> None:
         self.core = [0] * 32768
@@ -18,6 +24,7 @@ class Machine:
         self.has_key = self.has_printed = self.is_busy = False
         self.printed: list[int] = []
         self.breaks: set[int] = set()
+        self.absent: dict[int, tuple[int, int]] = {}
 
     def start(self, cell: int) -> None:
         self.ac = self.link = self.save_field = 0
@@ -68,6 +75,7 @@ class Machine:
         if word < 0o6000:
             self.refer(word, place)
         elif word < 0o7000:
+            self.meet(word, place)
             self.input_output(word)
         elif word & 0o400:
             self.group_2(word)
@@ -138,6 +146,16 @@ class Machine:
             self.ac |= self.switches
         if word & 0o2:
             self.is_running = False
+
+    def meet(self, word: int, place: int) -> None:
+        """Keeps the word and the cell of an IOT whose device isn't there, and is met for the first time."""
+        device = word >> 3 & 0o77
+        if device not in self.devices:
+            self.absent.setdefault(device, (word, 4096 * self.instruction_field + place))
+
+    def notes(self) -> str:
+        """What a run at the Teletype says of devices that aren't there."""
+        return "".join(f"note: no device {octal(word, 4)} at {octal(cell, 5)}\n" for word, cell in [*self.absent.values()][:MOST_NOTES])
 
     def input_output(self, word: int) -> None:
         device, pulses = word >> 3 & 0o77, word & 7

@@ -26,7 +26,9 @@ class Drive:
 
 
 class Machine8e(Machine):
-    """Core, registers, flags and drives; what was printed, and the transfers of the last step."""
+    """Core, registers, flags and drives; what was printed, and the transfers, of the last step and all."""
+
+    devices = Machine.devices | {0o74}
 
     def __init__(self, is_peer: bool = False) -> None:
         super().__init__()
@@ -39,6 +41,7 @@ class Machine8e(Machine):
         self.drives = [Drive() for _ in range(4)]
         self.disk_time = self.seek_time = 10
         self.moves: list[str] = []
+        self.all_moves: list[str] = []
         self.began: set[int] = set()
         self.is_interrupt = False
 
@@ -104,6 +107,8 @@ class Machine8e(Machine):
         if word < 0o6000:
             self.refer(word, place)
         elif word < 0o7000:
+            if not self.user:
+                self.meet(word, place)
             self.input_output(word)
         elif not word & 0o400:
             self.group_1_at(word, place)
@@ -305,6 +310,7 @@ class Machine8e(Machine):
         if drive.function in (*READS, *WRITES):
             way = "read" if drive.function in READS else "write"
             self.moves.append(f"RK {number} {way} {sector:05o} {first >> 12:o}{self.memory_address:04o} {count}")
+            self.all_moves.append(self.moves[-1])
         self.memory_address = (self.memory_address + count) % 4096
         self.is_transferring = False
         self.status |= DONE

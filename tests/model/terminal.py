@@ -94,15 +94,18 @@ def sat(sitting: Sitting) -> tuple[bytes, bytes, int]:
 
 def ended(machine: Machine, keys: list[int], sitting: Sitting) -> tuple[bytes, bytes, int]:
     """What a machine prints, how it ends, and the status."""
+    last = LIMIT
     for *_, why in steps(machine, keys, sitting.steps):
-        pass
+        last = why or LIMIT
     shown = bytes(it % 128 for it in machine.printed if it % 128)
     here = octal(machine.here, 5)
-    if why == HALT:
-        return shown, f"HALT {here} AC {octal(machine.ac, 4)} L {machine.link}\n".encode(), 0
-    if why == UNASSIGNED:
-        return shown, f"UNASSIGNED {here} {octal(machine.core[machine.here], 4)}\n".encode(), 1
-    return (shown, f"KEYS END {here}\n".encode(), 0) if why == KEYS else (shown, f"LIMIT {here}\n".encode(), 1)
+    lines = {
+        HALT: f"HALT {here} AC {octal(machine.ac, 4)} L {machine.link}\n",
+        UNASSIGNED: f"UNASSIGNED {here} {octal(machine.core[machine.here], 4)}\n",
+        KEYS: f"KEYS END {here}\n",
+        LIMIT: f"LIMIT {here}\n",
+    }
+    return shown, (machine.notes() + lines[last]).encode(), 0 if last in (HALT, KEYS) else 1
 
 
 def steps(machine: Machine, keys: list[int], most: int) -> Iterator[tuple[int, int, bool, Optional[str]]]:

@@ -4,7 +4,7 @@ import { spawnSync } from 'node:child_process';
 import { readFileSync, writeFileSync } from 'node:fs';
 import { dirname, join, resolve } from 'node:path';
 import { fileURLToPath } from 'node:url';
-import { COUNTS, LOOPS, answer, create, file, further, holds, image, isTold, native, optionsOf, pane, run, same, volume } from './tools.mjs';
+import { COUNTS, LOOPS, answer, assemble, create, file, further, holds, image, isTold, native, optionsOf, pane, run, same, volume } from './tools.mjs';
 
 // Prints for ever.
 const PRINTS = [0o7200, 0o1037, 0o6046, 0o6041, 0o5034, 0o5031, 0o301];
@@ -91,6 +91,30 @@ await run('boots', {
         await page.until(`document.getElementById('paper').textContent.length > 3`);
         await page.click('#tty-stop');
         await status(page, 'It was stopped. PRINTS: nothing was changed.');
+    },
+    'a device that isn\'t there is named before the end of a boot and of a tape, and is no fault': async (page, url) => {
+        const isBad = () => page.look(`document.getElementById('tty-status').classList.contains('bad')`), note = 'note: no device 6771 at 00';
+        await page.go(url);
+        disk('HALTS', [0o6771, 0o7402]);
+        await opens(page, 'HALTS');
+        await pane(page, 'machine');
+        await page.click('#boot');
+        await status(page, 'HALT');
+        same(`The program has halted.\nHALTS: nothing was changed.\n${note}031\nHALT 00033 AC 0000 L 0 MQ 0000`, await page.text('tty-status'), 'how the boot ended');
+        same(false, await isBad(), 'whether that is a fault');
+        disk('LOOPS', [0o6771, 0o5031]);
+        await opens(page, 'LOOPS');
+        await boots(page);
+        await page.click('#tty-stop');
+        await status(page, `It was stopped. LOOPS: nothing was changed.\n${note}031\nLIMIT 0003`);
+        same(false, await isBad(), 'whether a stop is a fault');
+        await assemble(page, 'IT', '*200\n\t6771\n\tHLT\n$\n');
+        await page.click('#to-teletype');
+        await page.until(`document.activeElement.id === 'tty-run'`);
+        await page.click('#tty-run');
+        await status(page, 'HALT 00202');
+        same(`The program has halted.\n${note}200\nHALT 00202 AC 0000 L 0`, await page.text('tty-status'), 'how the tape ended');
+        same(false, await isBad(), 'whether that is a fault');
     },
     'Undo takes back what a boot wrote, and not while it runs': async (page, url) => {
         await page.go(url);
@@ -233,7 +257,7 @@ await run('boots', {
         await page.keys('b');
         await isTold(page, 'paper', 'SASb');
     },
-    'lamps and a picture show which sectors a save has changed': async (page, url) => {
+    'lamps and a picture show which sectors were read, and which a save has changed': async (page, url) => {
         await page.go(url);
         disk('D');
         await opens(page, 'D');
@@ -241,22 +265,24 @@ await run('boots', {
         holds(!await page.look(`document.getElementById('drives').checkVisibility()`), 'drives are shown where nothing boots');
         await boots(page);
         const lamps = () => page.look(`[...document.querySelectorAll('.drive-lamp')].map(it => it.ariaLabel).join()`), told = () => page.look(`document.querySelector('.drive canvas').ariaLabel`);
-        same('Run on,Write off,Wt prot off', await lamps(), 'the lamps');
-        same('Drive 0, 90 sectors: nothing changed yet', await told(), 'the picture');
+        await page.until(`document.querySelectorAll('.drive-lamp')[1].ariaLabel === 'Read on'`);
+        same('Drive 0, 90 sectors: nothing changed yet; 1 sector read, last 0', await told(), 'the picture');
+        await page.until(`document.querySelectorAll('.drive-lamp')[1].ariaLabel === 'Read off'`);
+        same('Run on,Read off,Write off,Wt prot off', await lamps(), 'the lamps');
         // the light of the middle of a square, of its left side, and of its upper side; there are 32 in a row
         const light = sector => page.look(`(() => { const canvas = document.querySelector('.drive canvas'), brush = canvas.getContext('2d'), across = canvas.clientWidth / 32;
             const at = (x, y) => { const [r, g, b] = brush.getImageData(Math.floor(x), Math.floor(y), 1, 1).data; return r + g + b > 600 ? 'light' : 'dark'; };
             const x = ${sector} % 32 * across, y = Math.floor(${sector} / 32) * Math.floor(across); return [at(x + across / 2, y + across / 2), at(x + 2, y + across / 2), at(x + across / 2, y + 2)].join(' '); })()`);
         same('light light light', await light(SECTOR), 'an empty sector');
-        same('dark dark dark', await light(0), 'a sector with words');
+        same('dark dark light', await light(0), 'the sector that was read last');
         await page.keys('A');
-        await page.until(`document.querySelectorAll('.drive-lamp')[1].ariaLabel === 'Write on'`);
-        same(`Drive 0, 90 sectors: 1 sector changed and saved, last ${SECTOR}`, await told(), 'the picture after a key');
+        await page.until(`document.querySelectorAll('.drive-lamp')[2].ariaLabel === 'Write on'`);
+        same(`Drive 0, 90 sectors: 1 sector changed and saved, last ${SECTOR}; 1 sector read, last 0`, await told(), 'the picture after a key');
         same('light light dark', await light(SECTOR), 'the sector that was changed last');
-        await page.until(`document.querySelectorAll('.drive-lamp')[1].ariaLabel === 'Write off'`);
+        await page.until(`document.querySelectorAll('.drive-lamp')[2].ariaLabel === 'Write off'`);
         await page.click('#tty-stop');
         await status(page, 'It was stopped.');
-        same('Run off,Write off,Wt prot off', await lamps(), 'the lamps at the end');
+        same('Run off,Read off,Write off,Wt prot off', await lamps(), 'the lamps at the end');
     },
     'the disk of the shelf boots at one click, and is that of the examples': async (page, url) => {
         await page.go(url);

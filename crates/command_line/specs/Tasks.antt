@@ -114,11 +114,12 @@ IsDisk id values form = IsDrive id (codes "0") values form.drive0
 abbrev pub AreFitTimes : DiskForm → Type 0
 AreFitTimes form = (form.disk_time ≤ 1000000) × (form.seek_time ≤ 1000000)
 
--- the tape in the reader, the files of punch and line printer, and the clock
+-- the tape in the reader, the files of punch, line printer and transfers, and the clock
 abbrev pub AreDevices : List Row → DeviceForm → Type 0
 AreDevices values form = (first_of (codes "reader") values ≡ option_map (λ name. name.bytes.items) form.reader)
     × (first_of (codes "punch") values ≡ option_map (λ name. name.bytes.items) form.punch)
     × (first_of (codes "printer") values ≡ option_map (λ name. name.bytes.items) form.printer)
+    × (first_of (codes "transfers") values ≡ option_map (λ name. name.bytes.items) form.transfers)
     × (option_map number_of (one_of (codes "clock") values) ≡ form.clock)
 
 -- how a machine runs at the console, the disk of drive 0 by this argument

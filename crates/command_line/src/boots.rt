@@ -53,6 +53,7 @@ pub fn console_of(alloc: Global, found: &ArgMatches<'_>, verb: Verb, id: &str) -
     requires reader { takes_text (kind_at (codes "reader") (rows_for verb)) ≡ true }
     requires punch { takes_text (kind_at (codes "punch") (rows_for verb)) ≡ true }
     requires printer { takes_text (kind_at (codes "printer") (rows_for verb)) ≡ true }
+    requires transfers { takes_text (kind_at (codes "transfers") (rows_for verb)) ≡ true }
     requires clock { kind_at (codes "clock") (rows_for verb) ≡ Some kind.Count }
     requires ticks { IsTaken kind.Count (codes "clock") (values_in found.now) }
     ensures console { IfOk result (IsConsole id.now (values_in found.now)) }

@@ -164,9 +164,9 @@ names_disk values = has (codes "rk0") values || has (codes "rk1") values || has 
 abbrev pub says_of_disk : List Row → Bool
 says_of_disk values = names_disk values || has (codes "lock") values || is_set (codes "look") values || has (codes "wait") values || has (codes "disk-time") values || has (codes "seek-time") values
 
--- something is said of reader, punch, line printer or clock of an 8/E
+-- something is said of reader, punch, line printer, transfers or clock of an 8/E
 abbrev pub says_of_devices : List Row → Bool
-says_of_devices values = has (codes "reader") values || has (codes "punch") values || has (codes "printer") values || has (codes "clock") values
+says_of_devices values = has (codes "reader") values || has (codes "punch") values || has (codes "printer") values || has (codes "transfers") values || has (codes "clock") values
 
 -- something is said of an 8/E at the console
 abbrev pub says_of_console : List Row → Bool

@@ -111,11 +111,15 @@ fn says_of_console(found: &ArgMatches<'_>) -> bool
         || is_set(found, "capitals")
 }
 
-/// Whether something is said of reader, punch, line printer or clock of an 8/E.
+/// Whether something is said of reader, punch, line printer, transfers or clock of an 8/E.
 fn says_of_devices(found: &ArgMatches<'_>) -> bool
     ensures { result ≡ spec.says_of_devices (values_in found.now) }
 {
-    has(found, "reader") || has(found, "punch") || has(found, "printer") || has(found, "clock")
+    has(found, "reader")
+        || has(found, "punch")
+        || has(found, "printer")
+        || has(found, "transfers")
+        || has(found, "clock")
 }
 
 /// Whether something is said of the disk of an 8/E.

@@ -27,7 +27,7 @@ macro_rules! rows {
     };
 }
 
-/// The rows of a subcommand, of which those on reader, punch, line printer and clock of an 8/E stand between these.
+/// The rows of a subcommand, of which those on reader, punch, line printer, transfers and clock of an 8/E stand between these.
 macro_rules! rows_with_devices {
     ($reader:literal, { $($before:tt)* } { $($after:tt)* }) => {
         rows! {
@@ -35,6 +35,7 @@ macro_rules! rows_with_devices {
             "reader" option Kind::One(Form::Text), "FILE", $reader;
             "punch" option Kind::One(Form::Text), "FILE", "The file that gets what is punched";
             "printer" option Kind::One(Form::Text), "FILE", "The file that gets what is printed on the line printer";
+            "transfers" option Kind::One(Form::Text), "FILE", "The file that gets a line of each transfer of a disk, as trace prints it";
             "clock" option Kind::Count, "N", "The instructions from tick to tick of the clock, 1 up; without it there is no clock";
             $($after)*
         }

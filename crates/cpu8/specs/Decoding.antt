@@ -1,5 +1,5 @@
 -- What an instruction is known by (Small Computer Handbook). A bit is called by what it is worth.
-use Rattle.std.specs.Prelude.{ℕ, ◌/◌, ◌%◌, Bool, nat_eq, if◌then◌else◌}
+use Rattle.std.specs.Prelude.{ℕ, ◌/◌, ◌%◌, Bool, true, false, ◌&&◌, nat_eq, if◌then◌else◌}
 use Rattle.word12.specs.declared.sizes.TheConstants.{PAGE}
 use Rattle.tty8.specs.Bits.{has}
 use Rattle.cpu8.specs.declared.decoding.Operation.{Operation}
@@ -112,6 +112,18 @@ device_of word =
     else if nat_eq (word / 0o10 % 0o100) 4 then Printer
     else if nat_eq (word / 0o100 % 8) 2 then Fields
     else Other
+
+-- none of these is the device
+abbrev pub is_other : Device → Bool
+is_other Interrupts = false
+is_other Keyboard = false
+is_other Printer = false
+is_other Fields = false
+is_other Other = true
+
+-- an IOT of a device that isn't there
+abbrev pub is_absent : ℕ → Bool
+is_absent w = nat_eq (w / 0o1000) 6 && is_other (device_of w)
 
 -- the field that an IOT of the extended memory names: bits 6 to 8 of the word
 abbrev pub field_of : ℕ → ℕ

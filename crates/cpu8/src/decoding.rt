@@ -3,7 +3,7 @@
 ghost use Rattle.std.specs.Prelude.{◌≡◌, ◌<◌, ◌%◌};
 ghost use Rattle.word12.specs.declared.sizes.TheConstants.{PAGE};
 ghost use Rattle.tty8.specs.Bits.{has};
-ghost use Rattle.cpu8.specs.Decoding.{operation_of, device_of, field_of, pulses_of};
+ghost use Rattle.cpu8.specs.Decoding.{operation_of, device_of, field_of, is_absent, pulses_of};
 
 use word12::{PAGE, Word};
 
@@ -128,6 +128,14 @@ pub(crate) fn device_of(word: Word) -> Device
         0o20..0o30 => Device::Fields,
         _ => Device::Other,
     }
+}
+
+/// Whether it is an IOT of a device that isn't there (Small Computer Handbook).
+#[inline(always)]
+pub fn is_absent(word: Word) -> bool
+    ensures { result ≡ is_absent word }
+{
+    word.get() / 0o1000 == 6 && matches!(device_of(word), Device::Other)
 }
 
 /// The pulses of an IOT: its last octal digit.

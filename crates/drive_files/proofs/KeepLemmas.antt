@@ -13,6 +13,7 @@ use Rattle.image_files.specs.Waiting.{Within}
 use Rattle.image_files.specs.Work.{Then, Purely, IsJust}
 use Rattle.image_files.specs.declared.reading.ImagePlace.{ImagePlace}
 use Rattle.image_files.proofs.KeepLemmas.{holds-keeps, looks-keeps, purely-keeps, same, then-keeps, within-keeps}
+use Rattle.drive_files.specs.Devices.{no_papers}
 use Rattle.drive_files.specs.Drives.{OfDrive}
 use Rattle.drive_files.specs.Mounting.{place_of, places_of}
 use Rattle.drive_files.specs.Opening.{AreOpen, are_saved, is_saved, HoldsIf, HoldsToWrite, IsWritable, LooksIn, OpensDisk, OpensDrive, OpensDrives, OpensNamed, TakesPack, open_disk}
@@ -170,18 +171,18 @@ drives-unplaced form is drives old new p = first-unplaced form (are-unsaved form
 
 -- no file of these places is held
 abbrev pub AreNone : Places → Type 0
-AreNone places = (places.place0 ≡ None) × (places.place1 ≡ None) × (places.place2 ≡ None) × (places.place3 ≡ None) × (places.punch ≡ None) × (places.printer ≡ None)
+AreNone places = (places.place0 ≡ None) × (places.place1 ≡ None) × (places.place2 ≡ None) × (places.place3 ≡ None) × (places.papers ≡ no_papers)
 
 pub saves-no-place : (disk : DiskState) (places places' : Places) (old : List Event) (result : Result (Unit {0}) Ending) (new : List Event) → AreNone places
     → SavesDrives disk places places' old result new → (new ≡ old) × AreNone places'
-saves-no-place disk places places' old result new (n0, n1, n2, n3, n4, n5) s = (
+saves-no-place disk places places' old result new (n0, n1, n2, n3, n4) s = (
   saves-nothing 3 disk.drive3.pack places.place3 places.rooms.saved3.items places'.rooms.saved3.items s.after_third s.fourth new n3 s.saves3
       ∙ (saves-nothing 2 disk.drive2.pack places.place2 places.rooms.saved2.items places'.rooms.saved2.items s.after_second s.third s.after_third n2 s.saves2
       ∙ (saves-nothing 1 disk.drive1.pack places.place1 places.rooms.saved1.items places'.rooms.saved1.items s.after_first s.second s.after_second n1 s.saves1
       ∙ saves-nothing 0 disk.drive0.pack places.place0 places.rooms.saved0.items places'.rooms.saved0.items old s.first s.after_first n0 s.saves0)),
-  (s.same.0 ∙ n0, s.same.1 ∙ n1, s.same.2 ∙ n2, s.same.3 ∙ n3, s.same.4 ∙ n4, s.same.5 ∙ n5),
+  (s.same.0 ∙ n0, s.same.1 ∙ n1, s.same.2 ∙ n2, s.same.3 ∙ n3, s.same.4 ∙ n4),
 )
 
 pub saves-none : (disk : DiskState) (drives : OpenDrives) (places' : Places) (old : List Event) (result : Result (Unit {0}) Ending) (new : List Event) → AreUnplaced drives
     → SavesDrives disk (places_of drives) places' old result new → new ≡ old
-saves-none disk drives places' old result new none s = (saves-no-place disk (places_of drives) places' old result new (none.0, none.1, none.2, none.3, refl, refl) s).0
+saves-none disk drives places' old result new none s = (saves-no-place disk (places_of drives) places' old result new (none.0, none.1, none.2, none.3, refl) s).0

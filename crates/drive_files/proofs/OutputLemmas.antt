@@ -16,6 +16,7 @@ use Rattle.image_files.specs.declared.reading.ImagePlace.{ImagePlace}
 use Rattle.drive_files.specs.Saving.{SavesBytes, SavesDrive, SavesDrives, SavesPack, WantsMemory}
 use Rattle.drive_files.specs.Devices.{SavesPaper, SavesPapers}
 use Rattle.drive_files.specs.declared.devices.PaperPlace.{PaperPlace}
+use Rattle.drive_files.specs.declared.devices.PaperPlaces.{PaperPlaces}
 use Rattle.drive_files.specs.declared.mounting.Places.{Places}
 
 abbrev text_of : List (Bool × List ℕ) → List ℕ
@@ -110,7 +111,9 @@ paper-text : (paper : PaperState) (place : Option PaperPlace) (old : List Event)
 paper-text paper None old result new p = ap output_text p.1
 paper-text paper (Some place) old result new p = writes-text Tape place.path.bytes.items place.name.bytes.items paper.bytes old p.written new p.writes
 
-pub papers-text : (papers : PapersState) (punch printer : Option PaperPlace) (old : List Event) (result : Result (Unit {0}) Ending) (new : List Event)
-    → SavesPapers papers punch printer old result new → output_text new ≡ output_text old
-papers-text papers punch printer old result new s =
-    paper-text papers.printer printer s.between s.second new s.saves_printer ∙ paper-text papers.punch punch old s.first s.between s.saves_punch
+pub papers-text : (papers : PapersState) (places : PaperPlaces) (old : List Event) (result : Result (Unit {0}) Ending) (new : List Event)
+    → SavesPapers papers places old result new → output_text new ≡ output_text old
+papers-text papers places old result new s =
+    paper-text papers.transfers places.transfers s.after_second s.third new s.saves_transfers
+    ∙ (paper-text papers.printer places.printer s.after_first s.second s.after_second s.saves_printer
+    ∙ paper-text papers.punch places.punch old s.first s.after_first s.saves_punch)

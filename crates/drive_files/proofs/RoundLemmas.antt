@@ -6,6 +6,7 @@ use Rattle.hosts.specs.declared.faults.PrintFault.{PrintFault}
 use Rattle.hosts.specs.Event.{Event}
 use Rattle.hosts.specs.Streams.{output_text}
 use Rattle.host_output.specs.Printing.{HasPrinted}
+use Rattle.terminal8.specs.declared.absences.Absence.{Absence}
 use Rattle.terminal8.specs.declared.inputs.Input.{Input}
 use Rattle.terminal8.specs.declared.keyboards.Form.{Form}
 use Rattle.terminal8.specs.declared.outcomes.Ended.{Ended}
@@ -47,7 +48,7 @@ saves-if-text form steps s kept kept' old result new (inr there) = saves-text s.
 files-if-text : (s : Console) (places : Places) (last last' : LastSave) (old : List Event) (result : Result (Unit {0}) Ending) (new : List Event) → FilesIfGrown s places last last' old result new
     → output_text new ≡ output_text old
 files-if-text s places last last' old result new (inl (grown, is, p)) = ap output_text p.1
-files-if-text s places last last' old result new (inr there) = papers-text s.papers places.punch places.printer old result new there.saves
+files-if-text s places last last' old result new (inr there) = papers-text s.papers places.papers old result new there.saves
 
 after-text : (name : Option (String Global)) (s : Console) (saved : Result (Unit {0}) Ending) (kept kept' : SavedPlaces) (old : List Event) (result : Result Bool Unsaved) (new : List Event)
     → DoesAfter name s saved kept kept' old result new → output_text new ≡ output_text old
@@ -115,11 +116,11 @@ pub pause-less : (n most soonest : ℕ) (old new : Sitting) (part : Result (Opti
 pause-less n most soonest old new part is p = (subst (λ (r : Result (Option Ended) TerminalFault). IsPause n most soonest old new r) is p).0
 
 -- a run that is broken off, whose input is that of its operator
-pub broken-runs : (keyed : Form) (input x : Input) (steps : ℕ) (first now : Console) (t : Sitting) (r l w p : Option (List ℕ)) (answer : Result Ended TerminalFault) → x ≡ input
-    → (HasCome console_acts keyed x first now t r l w p → RunsProgram console_acts keyed x steps first now r l w p answer) → HasCome console_acts keyed input first now t r l w p
-    → RunsProgram console_acts keyed input steps first now r l w p answer
-broken-runs keyed input x steps first now t r l w p answer is go come =
-    subst (λ (y : Input). RunsProgram console_acts keyed y steps first now r l w p answer) is (go (subst (λ (y : Input). HasCome console_acts keyed y first now t r l w p) (sym is) come))
+pub broken-runs : (keyed : Form) (input x : Input) (steps : ℕ) (first now : Console) (t : Sitting) (r l w p : Option (List ℕ)) (f : List Absence) (answer : Result Ended TerminalFault) → x ≡ input
+    → (HasCome console_acts keyed x first now t r l w p → RunsProgram console_acts keyed x steps first now r l w p f answer) → HasCome console_acts keyed input first now t r l w p
+    → RunsProgram console_acts keyed input steps first now r l w p f answer
+broken-runs keyed input x steps first now t r l w p f answer is go come =
+    subst (λ (y : Input). RunsProgram console_acts keyed y steps first now r l w p f answer) is (go (subst (λ (y : Input). HasCome console_acts keyed y first now t r l w p) (sym is) come))
 
 -- ## The end
 
@@ -133,14 +134,15 @@ none-is None is = refl
 none-is (Some it) is = absurd (true≢false is)
 
 -- the run has come to its end in a round
-pub ended-rounds : (form : ConsoleForm) (first after : Console) (places : Places) (mid : SavedPlaces) (keys : Reading) (old before new : List Event) (ran : Ran) (earlier most : ℕ) (fault : Option PrintFault) (answer : Result Ended TerminalFault)
+pub ended-rounds : (form : ConsoleForm) (first after : Console) (places : Places) (mid : SavedPlaces) (keys : Reading) (old before new : List Event) (ran : Ran) (earlier most : ℕ) (fault : Option PrintFault) (f : List Absence) (answer : Result Ended TerminalFault)
     → most ≡ unwrap_or form.steps (2 ^ 64 - 1) → earlier ≤ most → HaveMade form first earlier (places, none_saved) mid old before
-    → RunsProgram console_acts (form_of form.is_raw) (input_of form.is_live) most first after keys.before keys.after (Some (output_text old)) (Some (output_text new)) answer
+    → RunsProgram console_acts (form_of form.is_raw) (input_of form.is_live) most first after keys.before keys.after (Some (output_text old)) (Some (output_text new)) f answer
     → HasPrinted before new fault → IfErr answer (λ it. it ≡ terminal.Writer → is_some fault ≡ true) → IfErr answer (λ it. it ≡ terminal.Reader → keys.has_failed)
-    → ran.fault ≡ fault → ran.answer ≡ answer → ran.save ≡ Ok tt → RunsRounds form first after places mid.0 keys old ran new
-ended-rounds form first after places mid keys old before new ran earlier most fault answer is within made runs prints cause failed same-fault same-answer saved = record {
+    → ran.fault ≡ fault → ran.answer ≡ answer → ran.absences ≡ f → ran.save ≡ Ok tt → RunsRounds form first after places mid.0 keys old ran new
+ended-rounds form first after places mid keys old before new ran earlier most fault f answer is within made runs prints cause failed same-fault same-answer same-absences saved = record {
   most = most;
-  runs = subst (λ a. RunsProgram console_acts (form_of form.is_raw) (input_of form.is_live) most first after keys.before keys.after (Some (output_text old)) (Some (output_text new)) a) (sym same-answer) runs;
+  runs = subst (λ (x : List Absence). RunsProgram console_acts (form_of form.is_raw) (input_of form.is_live) most first after keys.before keys.after (Some (output_text old)) (Some (output_text new)) x ran.answer) (sym same-absences)
+      (subst (λ a. RunsProgram console_acts (form_of form.is_raw) (input_of form.is_live) most first after keys.before keys.after (Some (output_text old)) (Some (output_text new)) f a) (sym same-answer) runs);
   count = made.count;
   steps = earlier;
   mid = mid;
@@ -157,7 +159,7 @@ ended-rounds form first after places mid keys old before new ran earlier most fa
 -- the run is broken off, after so many steps
 broken : (form : ConsoleForm) (first after : Console) (places : Places) (mid kept' : SavedPlaces) (keys : Reading) (old before new : List Event) (ran : Ran) (earlier steps : ℕ) → earlier < steps
     → HaveMade form first earlier (places, none_saved) mid old before
-    → RunsProgram console_acts (form_of form.is_raw) (input_of form.is_live) steps first after keys.before keys.after (Some (output_text old)) (Some (output_text new)) ran.answer
+    → RunsProgram console_acts (form_of form.is_raw) (input_of form.is_live) steps first after keys.before keys.after (Some (output_text old)) (Some (output_text new)) ran.absences ran.answer
     → IfErr ran.answer (λ _. ⊥) → EndsOrBreaks form after mid kept' steps before ran new → RunsRounds form first after places kept'.0 keys old ran new
 broken form first after places mid kept' keys old before new ran earlier steps less made runs none last = record {
   most = steps;
@@ -177,7 +179,7 @@ broken form first after places mid kept' keys old before new ran earlier steps l
 -- it is broken off since a print failed
 pub broken-by-print : (form : ConsoleForm) (first after : Console) (places : Places) (mid : SavedPlaces) (keys : Reading) (old before new : List Event) (ran : Ran) (earlier steps : ℕ) (fault : Option PrintFault)
     → earlier < steps → HaveMade form first earlier (places, none_saved) mid old before
-    → RunsProgram console_acts (form_of form.is_raw) (input_of form.is_live) steps first after keys.before keys.after (Some (output_text old)) (Some (output_text new)) ran.answer
+    → RunsProgram console_acts (form_of form.is_raw) (input_of form.is_live) steps first after keys.before keys.after (Some (output_text old)) (Some (output_text new)) ran.absences ran.answer
     → IfErr ran.answer (λ _. ⊥) → HasPrinted before new fault → is_some fault ≡ true → ran.fault ≡ fault → ran.save ≡ Ok tt → RunsRounds form first after places mid.0 keys old ran new
 broken-by-print form first after places mid keys old before new ran earlier steps fault less made runs none prints some same saved =
     broken form first after places mid mid keys old before new ran earlier steps less made runs none
@@ -186,7 +188,7 @@ broken-by-print form first after places mid keys old before new ran earlier step
 -- it is broken off by what was done after a round
 pub broken-between : (form : ConsoleForm) (first after : Console) (places : Places) (mid kept' : SavedPlaces) (keys : Reading) (old before printed new : List Event) (ran : Ran) (earlier steps : ℕ) (result : Result Bool Unsaved)
     → earlier < steps → HaveMade form first earlier (places, none_saved) mid old before
-    → RunsProgram console_acts (form_of form.is_raw) (input_of form.is_live) steps first after keys.before keys.after (Some (output_text old)) (Some (output_text new)) ran.answer
+    → RunsProgram console_acts (form_of form.is_raw) (input_of form.is_live) steps first after keys.before keys.after (Some (output_text old)) (Some (output_text new)) ran.absences ran.answer
     → IfErr ran.answer (λ _. ⊥) → HasPrinted before printed None → DoesBetween form steps after mid kept' printed result new → IsBroken result ran.save → ran.fault ≡ None
     → RunsRounds form first after places kept'.0 keys old ran new
 broken-between form first after places mid kept' keys old before printed new ran earlier steps result less made runs none prints does breaks is =

@@ -1,9 +1,11 @@
 -- A whole 8/E at whose keyboard small letters may be struck as capitals, and what it puts on paper (this project's profile).
 use Rattle.std.specs.Prelude.{ℕ, ◌+◌, ◌-◌, ◌%◌, ◌^◌, Bool, ◌&&◌, not, nat_le, if◌then◌else◌}
 use Rattle.pdp8e.specs.State.{Pdp8e, key_struck}
-use Rattle.pdp8e.specs.Runs.{printing_step}
+use Rattle.pdp8e.specs.Step.{move_in}
+use Rattle.pdp8e.specs.Runs.{printing_step, with_printer_done}
+use Rattle.pdp8e.specs.Absences.{absence_at}
 use Rattle.pdp8e.specs.Asks.{asks_for_key, waits_for_key}
-use Rattle.pdp8e.specs.Papers.{PapersState, papers_after}
+use Rattle.pdp8e.specs.Papers.{PapersState, papers_after, papers_length}
 use Rattle.terminal8e.specs.Acts.{Acts}
 use Rattle.program_tasks.specs.declared.boots.ConsoleForm.{ConsoleForm}
 use Rattle.drive_files.specs.declared.consoles.Console.{Console}
@@ -24,12 +26,12 @@ key_of has_capitals character = if has_capitals && is_small character then chara
 abbrev pub with_machine : Console → Pdp8e → Console
 with_machine s machine = record s { machine = machine }
 
--- what a step leaves, by which a transfer may have ended, and which may have written on paper
+-- what a step leaves, in whose beginning a transfer may have ended, and which may have written on paper
 abbrev pub with_step : Console → Pdp8e → Console
 with_step s machine = record s {
   machine = machine;
   transfers = if s.machine.disk.control.busy && not machine.disk.control.busy then (s.transfers + 1) % 2 ^ 64 else s.transfers;
-  papers = papers_after machine s.papers;
+  papers = papers_after (move_in (with_printer_done s.machine)) machine s.papers;
 }
 
 -- what a terminal asks of it
@@ -40,7 +42,12 @@ console_acts = record {
   waits_for_key = λ s. waits_for_key s.machine;
   key_struck = λ s character. with_machine s (key_struck s.machine (key_of s.has_capitals character));
   printing_step = λ s. (with_step s (printing_step s.machine).0, (printing_step s.machine).1);
+  absence_at = λ s. absence_at s.machine;
 }
+
+-- so many bytes are on its papers
+abbrev pub bytes_on_paper : Console → ℕ
+bytes_on_paper s = papers_length s.papers
 
 -- its program waits for a key
 abbrev pub is_waiting : Console → Bool

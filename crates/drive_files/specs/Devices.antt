@@ -1,4 +1,5 @@
--- The tape in the reader of an 8/E, its clock, and the files that get what is punched and printed on the line printer (this project's profile).
+-- The tape in the reader of an 8/E, its clock, and the files of its papers. These get what is punched, what is printed on the line printer, and
+-- a line of each transfer of a disk (this project's profile).
 use Rattle.std.specs.Prelude.{◌≡◌, ◌⊎◌, ◌<◌, ℕ, Bool, true, false, ◌||◌, if◌then◌else◌, is_some, Option, None, Some, Result, Ok, Err, String, List, [], ◌∷◌}
 use Rattle.std.specs.Global.{Global, Vec}
 use Rattle.pdp8e.specs.Papers.{PaperState, PapersState, new_papers}
@@ -21,16 +22,17 @@ use Rattle.image_files.specs.Work.{Then, Purely, Lacks, IsJust}
 use Rattle.drive_files.specs.Saving.{SavesNothing, earlier}
 use Rattle.drive_files.specs.declared.devices.OpenDevices.{OpenDevices}
 use Rattle.drive_files.specs.declared.devices.PaperPlace.{PaperPlace}
+use Rattle.drive_files.specs.declared.devices.PaperPlaces.{PaperPlaces}
 
--- a file gets what is punched, or printed on the line printer
+-- a file gets what is punched, or printed on the line printer, or the lines of transfers
 abbrev pub has_papers : DeviceForm → Bool
-has_papers form = is_some form.punch || is_some form.printer
+has_papers form = is_some form.punch || (is_some form.printer || is_some form.transfers)
 
 -- ## Before the run
 
 -- empty papers, which keep what is put on them where a file gets it, unless memory is wanted for that
 abbrev pub TakesPapers : DeviceForm → Result PapersState Ending → Type 0
-TakesPapers form (Ok papers) = papers ≡ new_papers (is_some form.punch) (is_some form.printer)
+TakesPapers form (Ok papers) = papers ≡ new_papers (is_some form.punch) (is_some form.printer) (is_some form.transfers)
 TakesPapers form (Err ending) = ending ≡ Fault Memory
 
 -- the frames of the tape in the reader, if there is one
@@ -85,14 +87,25 @@ abbrev pub OpensPaper : Option (String Global) → List Event → Result (Option
 OpensPaper None = Purely (IsJust None)
 OpensPaper (Some name) = Then (EmptiesPaper name.bytes.items) (λ place. Purely (IsJust (Some place)))
 
-abbrev pub open_devices : Option (Vec ℕ) → Option PaperPlace → Option PaperPlace → OpenDevices
-open_devices tape punch printer = record { tape = tape; punch = punch; printer = printer }
+abbrev pub paper_places : Option PaperPlace → Option PaperPlace → Option PaperPlace → PaperPlaces
+paper_places punch printer transfers = record { punch = punch; printer = printer; transfers = transfers }
 
--- the tape is read, and then the files of punch and line printer are opened
+-- no file gets what is put on paper
+abbrev pub no_papers : PaperPlaces
+no_papers = paper_places None None None
+
+-- the files of punch, line printer and transfers, one after the other
+abbrev pub OpensPapers : DeviceForm → List Event → Result PaperPlaces Ending → List Event → Type 0
+OpensPapers form =
+    Then (OpensPaper form.punch) (λ punch. Then (OpensPaper form.printer) (λ printer. Then (OpensPaper form.transfers) (λ transfers.
+    Purely (IsJust (paper_places punch printer transfers)))))
+
+abbrev pub open_devices : Option (Vec ℕ) → PaperPlaces → OpenDevices
+open_devices tape papers = record { tape = tape; papers = papers }
+
+-- the tape is read, and then the files of the papers are opened
 abbrev pub OpensDevices : DeviceForm → List Event → Result OpenDevices Ending → List Event → Type 0
-OpensDevices form =
-    Then (ReadsTape form.reader) (λ tape. Then (OpensPaper form.punch) (λ punch. Then (OpensPaper form.printer) (λ printer.
-    Purely (IsJust (open_devices tape punch printer)))))
+OpensDevices form = Then (ReadsTape form.reader) (λ tape. Then (OpensPapers form) (λ papers. Purely (IsJust (open_devices tape papers))))
 
 -- ## The machine
 
@@ -129,11 +142,14 @@ abbrev pub SavesPaper : PaperState → Option PaperPlace → List Event → Resu
 SavesPaper paper None = SavesNothing
 SavesPaper paper (Some place) = WritesPaper paper place
 
--- the punch's, and then the line printer's, whatever became of the first
-pub record SavesPapers (papers : PapersState) (punch printer : Option PaperPlace) (old : List Event) (result : Result (Unit {0}) Ending) (new : List Event) : Type 0 where
+-- the punch's, the line printer's and that of transfers, each whatever became of those before it
+pub record SavesPapers (papers : PapersState) (places : PaperPlaces) (old : List Event) (result : Result (Unit {0}) Ending) (new : List Event) : Type 0 where
   pub first : Result (Unit {0}) Ending
   pub second : Result (Unit {0}) Ending
-  pub between : List Event
-  pub saves_punch : SavesPaper papers.punch punch old first between
-  pub saves_printer : SavesPaper papers.printer printer between second new
-  pub is : result ≡ earlier first second
+  pub third : Result (Unit {0}) Ending
+  pub after_first : List Event
+  pub after_second : List Event
+  pub saves_punch : SavesPaper papers.punch places.punch old first after_first
+  pub saves_printer : SavesPaper papers.printer places.printer after_first second after_second
+  pub saves_transfers : SavesPaper papers.transfers places.transfers after_second third new
+  pub is : result ≡ earlier first (earlier second third)

@@ -3,6 +3,7 @@ use Rattle.std.specs.Prelude.{ℕ, Bool, true, false, nat_le, if◌then◌else�
 use Rattle.rk8e.specs.State.{DriveState, DiskState, new_control, new_drive, with_lock, with_pack}
 use Rattle.program_tasks.specs.declared.boots.DiskForm.{DiskForm}
 use Rattle.image_files.specs.declared.reading.ImagePlace.{ImagePlace}
+use Rattle.drive_files.specs.Devices.{no_papers}
 use Rattle.drive_files.specs.declared.mounting.Places.{Places}
 use Rattle.drive_files.specs.declared.devices.OpenDevices.{OpenDevices}
 use Rattle.drive_files.specs.declared.opening.OpenDisk.{OpenDisk}
@@ -48,10 +49,9 @@ places_of drives = record {
   place3 = place_of drives.disk3;
   rooms = drives.rooms;
   saves = 0;
-  punch = None;
-  printer = None;
+  papers = no_papers;
 }
 
--- with those of punch and line printer
+-- with those of the papers
 abbrev pub with_papers : OpenDevices → Places → Places
-with_papers devices places = record places { punch = devices.punch; printer = devices.printer }
+with_papers devices places = record places { papers = devices.papers }

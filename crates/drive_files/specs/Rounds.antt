@@ -1,5 +1,5 @@
 -- A run in rounds. Between two of them changed disks and papers may be saved, and an end may be asked for (this project's profile).
-use Rattle.std.specs.Prelude.{◌≡◌, ◌⊎◌, ◌<◌, ◌≤◌, ◌==◌, ℕ, zero, suc, ◌-◌, ◌^◌, Bool, true, false, ◌&&◌, ◌||◌, not, nat_eq, nat_le, nat_lt, if◌then◌else◌, is_some, unwrap_or, IfErr, Option, None, Some, String, Result, Ok, Err, List, ◌∷◌, length}
+use Rattle.std.specs.Prelude.{◌≡◌, ◌⊎◌, ◌<◌, ◌≤◌, ◌==◌, ℕ, zero, suc, ◌-◌, ◌^◌, Bool, true, false, ◌&&◌, ◌||◌, not, nat_eq, nat_le, nat_lt, if◌then◌else◌, is_some, unwrap_or, IfErr, Option, None, Some, String, Result, Ok, Err, List, ◌∷◌}
 use Rattle.std.specs.Global.{Global}
 use Rattle.byte_reader.specs.Readings.{Reading}
 use Rattle.terminal8.specs.declared.outcomes.TerminalFault.TheVariants as terminal
@@ -14,7 +14,7 @@ use Rattle.drive_files.specs.Inputs.{form_of, input_of}
 use Rattle.drive_files.specs.Saving.{SavesDrives, SavesNothing}
 use Rattle.drive_files.specs.Devices.{SavesPapers}
 use Rattle.drive_files.specs.declared.mounting.Places.{Places}
-use Rattle.drive_files.specs.Consoles.{is_at_wait, is_waiting, console_acts}
+use Rattle.drive_files.specs.Consoles.{bytes_on_paper, is_at_wait, is_waiting, console_acts}
 use Rattle.drive_files.specs.declared.rounds.LastSave.{LastSave}
 use Rattle.drive_files.specs.declared.rounds.Ran.{Ran}
 use Rattle.drive_files.specs.declared.rounds.Unsaved.{Unsaved}
@@ -29,7 +29,7 @@ SavedPlaces = Places × LastSave
 
 -- no save was tried yet
 abbrev pub none_saved : LastSave
-none_saved = record { steps = 0; transfers = 0; frames = 0; characters = 0 }
+none_saved = record { steps = 0; transfers = 0; bytes = 0 }
 
 -- A save is due after so many steps where as many as the form says were made since the last one. A transfer has ended since one was last tried, and
 -- the program waits for a key while no transfer is under way.
@@ -58,19 +58,19 @@ pub record SavesThere (form : ConsoleForm) (steps : ℕ) (s : Console) (kept kep
 abbrev pub SavesIfDue : ConsoleForm → ℕ → Console → SavedPlaces → SavedPlaces → List Event → Result (Unit {0}) Ending → List Event → Type 0
 SavesIfDue form steps s kept kept' old result new = ((is_due form steps s kept.1 ≡ false) × (kept' ≡ kept) × SavesNothing old result new) ⊎ SavesThere form steps s kept kept' old result new
 
--- a paper has more than was saved of it, and the program waits for a key
+-- more bytes are on the papers than were saved, and the program waits for a key
 abbrev pub is_grown : Console → LastSave → Bool
-is_grown s last = (not (nat_eq (length s.papers.punch.bytes) last.frames) || not (nat_eq (length s.papers.printer.bytes) last.characters)) && is_waiting s
+is_grown s last = not (nat_eq (bytes_on_paper s) last.bytes) && is_waiting s
 
 -- so much of the papers is saved then, unless that failed
 abbrev pub last_on_paper : Result (Unit {0}) Ending → Console → LastSave → LastSave
-last_on_paper (Ok it) s last = record last { frames = length s.papers.punch.bytes; characters = length s.papers.printer.bytes }
+last_on_paper (Ok it) s last = record last { bytes = bytes_on_paper s }
 last_on_paper (Err ending) s last = last
 
 -- the papers are saved, since one has grown
 pub record FilesThere (s : Console) (places : Places) (last last' : LastSave) (old : List Event) (result : Result (Unit {0}) Ending) (new : List Event) : Type 0 where
   pub grown : is_grown s last ≡ true
-  pub saves : SavesPapers s.papers places.punch places.printer old result new
+  pub saves : SavesPapers s.papers places.papers old result new
   pub leaves : last' ≡ last_on_paper result s last
 
 abbrev pub FilesIfGrown : Console → Places → LastSave → LastSave → List Event → Result (Unit {0}) Ending → List Event → Type 0
@@ -126,7 +126,7 @@ EndsOrBreaks form s kept kept' most old ran new =
 -- keys, and standard output is its paper.
 pub record RunsRounds (form : ConsoleForm) (first after : Console) (places places' : Places) (keys : Reading) (old : List Event) (ran : Ran) (new : List Event) : Type 0 where
   pub most : ℕ
-  pub runs : RunsProgram console_acts (form_of form.is_raw) (input_of form.is_live) most first after keys.before keys.after (Some (output_text old)) (Some (output_text new)) ran.answer
+  pub runs : RunsProgram console_acts (form_of form.is_raw) (input_of form.is_live) most first after keys.before keys.after (Some (output_text old)) (Some (output_text new)) ran.absences ran.answer
   pub count : ℕ
   pub steps : ℕ
   pub mid : SavedPlaces

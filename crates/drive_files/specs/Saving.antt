@@ -53,7 +53,7 @@ earlier (Err ending) later = Err ending
 abbrev pub ArePlaces : Places → Places → Type 0
 ArePlaces places places' =
     (places'.place0 ≡ places.place0) × (places'.place1 ≡ places.place1) × (places'.place2 ≡ places.place2) × (places'.place3 ≡ places.place3)
-    × (places'.punch ≡ places.punch) × (places'.printer ≡ places.printer)
+    × (places'.papers ≡ places.papers)
 
 -- the drives, in rising order, each whatever became of those before it
 pub record SavesDrives (disk : DiskState) (places places' : Places) (old : List Event) (result : Result (Unit {0}) Ending) (new : List Event) : Type 0 where

@@ -5,9 +5,10 @@ ghost use Rattle.drive_files.specs.Consoles as spec;
 use cpu8::Stepped;
 use pdp8e::{Machine, Papers};
 use program_tasks::ConsoleForm;
+use terminal8::Absence;
 use terminal8e::{TerminalMachine, is_late, steps_before_look};
 
-/// A machine, whether small letters are struck as capitals at its keyboard, and the papers of its punch and its line printer.
+/// A machine, whether small letters are struck as capitals at its keyboard, and its papers.
 #[derive(Drop)]
 pub struct Console {
     pub machine: Machine,
@@ -16,7 +17,7 @@ pub struct Console {
     /// How many steps, modulo 2^64, found a transfer of the disk under way and left none.
     pub transfers: u64,
 
-    /// What its steps punched, and printed on the line printer.
+    /// What its steps punched, and printed on the line printer, and a line of each transfer that ended in them.
     pub papers: Papers,
 }
 
@@ -71,14 +72,14 @@ impl TerminalMachine for Console {
     }
 
     #[inline]
-    fn make_step(&mut self) -> Stepped {
+    fn make_step(&mut self) -> (Stepped, Option<Absence>) {
         let was_busy = self.machine.disk().is_busy();
-        let did = self.machine.make_step();
+        let parts = self.machine.step_by_parts();
         if was_busy && !self.machine.disk().is_busy() {
             self.transfers = self.transfers.wrapping_add(1);
         }
-        self.papers.put(&self.machine);
-        did
+        self.papers.put(&parts.transfer, &self.machine);
+        (parts.did, parts.absence)
     }
 
     #[inline]

@@ -1,7 +1,8 @@
-//! The tape in the reader of an 8/E, its clock, and the files that get what is punched and printed on the line printer.
+//! The tape in the reader of an 8/E, its clock, and the files of its papers. These get what is punched, what is printed on the line printer, and
+//! a line of each transfer of a disk.
 ghost use Rattle.std.specs.Prelude.{◌≡◌};
 ghost use Rattle.drive_files.specs.Devices as spec;
-ghost use Rattle.drive_files.specs.Devices.{EmptiesPaper, HoldsPaper, MakesPaper, OpensDevices, OpensPaper, ReadsTape, SavesPaper, SavesPapers, TakesPapers};
+ghost use Rattle.drive_files.specs.Devices.{EmptiesPaper, HoldsPaper, MakesPaper, OpensDevices, OpensPaper, OpensPapers, ReadsTape, SavesPaper, SavesPapers, TakesPapers};
 
 use crate::saving::earlier;
 use hosts::{FaultClass, Held, Host, HostFault, Unwritten, hold_file};
@@ -21,15 +22,22 @@ pub struct PaperPlace {
     pub name: String,
 }
 
-/// The frames of the tape in the reader, and where the files of punch and line printer are held.
+/// Where the files of punch, line printer and transfers are held, each if there is one.
+#[derive(Drop)]
+pub struct PaperPlaces {
+    pub punch: Option<PaperPlace>,
+    pub printer: Option<PaperPlace>,
+    pub transfers: Option<PaperPlace>,
+}
+
+/// The frames of the tape in the reader, and where the files of the papers are held.
 #[derive(Drop)]
 pub struct OpenDevices {
     pub tape: Option<Vec<u8>>,
-    pub punch: Option<PaperPlace>,
-    pub printer: Option<PaperPlace>,
+    pub papers: PaperPlaces,
 }
 
-/// Reads the tape of the reader, and makes or empties the files of punch and line printer.
+/// Reads the tape of the reader, and makes or empties the files of the papers.
 pub fn open_devices<H: Host>(
     host: &mut H,
     alloc: Global,
@@ -38,13 +46,8 @@ pub fn open_devices<H: Host>(
     ensures { OpensDevices form.now (H.history host.old) result (H.history host.new) }
 {
     let tape = read_tape(host, alloc, &form.reader)?;
-    let punch = open_paper(host, alloc, &form.punch)?;
-    let printer = open_paper(host, alloc, &form.printer)?;
-    Ok(OpenDevices {
-        tape,
-        punch,
-        printer,
-    })
+    let papers = open_papers(host, alloc, form)?;
+    Ok(OpenDevices { tape, papers })
 }
 
 /// Reads the frames of the tape in the reader, if there is one.
@@ -62,6 +65,24 @@ fn read_tape<H: Host>(
             Ok(Some(frames))
         }
     }
+}
+
+/// Makes or empties the files of the papers, and holds them.
+fn open_papers<H: Host>(
+    host: &mut H,
+    alloc: Global,
+    form: &DeviceForm,
+) -> Result<PaperPlaces, Ending>
+    ensures { OpensPapers form.now (H.history host.old) result (H.history host.new) }
+{
+    let punch = open_paper(host, alloc, &form.punch)?;
+    let printer = open_paper(host, alloc, &form.printer)?;
+    let transfers = open_paper(host, alloc, &form.transfers)?;
+    Ok(PaperPlaces {
+        punch,
+        printer,
+        transfers,
+    })
 }
 
 /// Makes or empties the file of a paper, if there is one, and holds it.
@@ -129,21 +150,12 @@ fn ending_of_paper(fault: HostFault) -> Ending
     }
 }
 
-/// Puts tape, paper and clock into a machine, each if there is one. The answer is where the files of punch and line printer are held.
-pub fn put_devices(
-    machine: &mut Machine,
-    form: &DeviceForm,
-    devices: OpenDevices,
-) -> (Option<PaperPlace>, Option<PaperPlace>)
+/// Puts tape, paper and clock into a machine, each if there is one. The answer is where the files of the papers are held.
+pub fn put_devices(machine: &mut Machine, form: &DeviceForm, devices: OpenDevices) -> PaperPlaces
     ensures machine { machine.new ≡ spec.with_devices machine.old form.now devices }
-    ensures punch { result.0 ≡ devices.punch }
-    ensures printer { result.1 ≡ devices.printer }
+    ensures papers { result ≡ devices.papers }
 {
-    let OpenDevices {
-        tape,
-        punch,
-        printer,
-    } = devices;
+    let OpenDevices { tape, papers } = devices;
     if let Some(frames) = tape {
         machine.put_tape(frames);
     }
@@ -153,31 +165,32 @@ pub fn put_devices(
     if let Some(period) = form.clock {
         machine.put_clock(period);
     }
-    (punch, printer)
+    papers
 }
 
-/// Empty papers for punch and line printer, which keep what is put on them where a file gets it. Their memory is taken here.
+/// Empty papers, each of which keeps what is put on it where a file gets it. Their memory is taken here.
 pub fn take_papers(alloc: Global, form: &DeviceForm) -> Result<Papers, Ending>
     ensures { TakesPapers form.now result }
 {
-    let papers = Papers::new(alloc, form.punch.is_some(), form.printer.is_some())?;
+    let (punch, printer) = (form.punch.is_some(), form.printer.is_some());
+    let papers = Papers::new(alloc, punch, printer, form.transfers.is_some())?;
     Ok(papers)
 }
 
-/// Has the files of punch and line printer hold what was put on paper. Where one can't be written the other is. The answer is why the first
-/// was not.
+/// Has the files of punch, line printer and transfers hold what was put on paper. Where one can't be written the others are. The answer is why
+/// the first was not.
 pub fn save_papers<H: Host>(
     host: &mut H,
     alloc: Global,
     papers: &Papers,
-    punch: &Option<PaperPlace>,
-    printer: &Option<PaperPlace>,
+    places: &PaperPlaces,
 ) -> Result<(), Ending>
-    ensures { SavesPapers papers.now punch.now printer.now (H.history host.old) result (H.history host.new) }
+    ensures { SavesPapers papers.now places.now (H.history host.old) result (H.history host.new) }
 {
-    let first = save_paper(host, alloc, &papers.punch, punch);
-    let second = save_paper(host, alloc, &papers.printer, printer);
-    earlier(first, second)
+    let first = save_paper(host, alloc, &papers.punch, &places.punch);
+    let second = save_paper(host, alloc, &papers.printer, &places.printer);
+    let third = save_paper(host, alloc, &papers.transfers, &places.transfers);
+    earlier(first, earlier(second, third))
 }
 
 /// Has the file of a paper hold what was put on it, if there is a file. Where there was no room for some of it, the file holds what was put on

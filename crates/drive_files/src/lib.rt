@@ -1,4 +1,4 @@
-//! The files of the disks of an 8/E, and of its reader, punch and line printer, over any host. Which are held and read before a run, how disks come
+//! The files of the disks of an 8/E, of its reader, punch and line printer, and of its transfers, over any host. Which are held and read before a run, how disks come
 //! into the drives, and what is saved in the run and at its end.
 #![tactic(auto)]
 
@@ -13,7 +13,9 @@ mod rounds;
 mod saving;
 
 pub use consoles::{Console, console_with};
-pub use devices::{OpenDevices, PaperPlace, open_devices, put_devices, save_papers, take_papers};
+pub use devices::{
+    OpenDevices, PaperPlace, PaperPlaces, open_devices, put_devices, save_papers, take_papers,
+};
 pub use inputs::{form_of, input_of};
 pub use mounting::{Places, disk_of};
 pub use opening::{OpenDisk, OpenDrives, SaveRooms, open_drives};

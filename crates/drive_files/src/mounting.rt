@@ -3,7 +3,7 @@ ghost use Rattle.std.specs.Prelude.{◌≡◌, ◌≤◌};
 ghost use Rattle.rk8e.specs.State.{drive_of, with_drive};
 ghost use Rattle.drive_files.specs.Mounting as spec;
 
-use crate::devices::PaperPlace;
+use crate::devices::PaperPlaces;
 use crate::opening::{OpenDisk, OpenDrives, SaveRooms};
 use image_files::ImagePlace;
 use program_tasks::DiskForm;
@@ -12,7 +12,7 @@ use rk8e::Disk;
 /// The greatest time of a disk, in instructions.
 const MOST_TIME: u32 = 1_000_000;
 
-/// Where the files of the drives are held, each if it is to be saved, and what is known of their saves. So it is for punch and line printer.
+/// Where the files of the drives are held, each if it is to be saved, and what is known of their saves, and where those of the papers are.
 #[derive(Drop)]
 pub struct Places {
     pub place0: Option<ImagePlace>,
@@ -24,8 +24,7 @@ pub struct Places {
     /// How many times the file of a disk was written.
     pub saves: u64,
 
-    pub punch: Option<PaperPlace>,
-    pub printer: Option<PaperPlace>,
+    pub papers: PaperPlaces,
 }
 
 /// The disk control whose drives have these disks, and are locked where that is asked for, and where the files of the disks are held. No file of a
@@ -53,8 +52,11 @@ pub fn disk_of(form: &DiskForm, drives: OpenDrives) -> (Disk, Places)
         place3,
         rooms,
         saves: 0,
-        punch: None,
-        printer: None,
+        papers: PaperPlaces {
+            punch: None,
+            printer: None,
+            transfers: None,
+        },
     };
     (disk, places)
 }

@@ -21,10 +21,10 @@ use byte_reader::ByteReader;
 use host_output::{Before, Printer};
 use hosts::{Host, PrintFault};
 use outcome::Ending;
-use program_tasks::ConsoleForm;
+use program_tasks::{ConsoleForm, DeviceForm};
 use std::alloc::Global;
 use std::marker::Brand;
-use terminal8::{Ended, TerminalFault};
+use terminal8::{Absences, Ended, TerminalFault};
 use terminal8e::Sitting;
 
 /// The most steps of a round, so that an end that is asked for is soon seen.
@@ -36,6 +36,9 @@ pub struct Ran {
     /// Why the last print failed, if it did.
     pub fault: Option<PrintFault>,
     pub answer: Result<Ended, TerminalFault>,
+
+    /// The IOTs of devices that aren't there which it did: the first of each device, of eight devices at most.
+    pub absences: Absences,
 
     /// What could not be saved in the run, which then ended there.
     pub save: Result<(), Unsaved>,
@@ -59,14 +62,13 @@ pub(crate) struct LastSave {
     /// The transfers of the disk that had ended when a save was last tried.
     pub(crate) transfers: u64,
 
-    /// The frames that were punched by then, and the characters that were printed on the line printer.
-    pub(crate) frames: usize,
-    pub(crate) characters: usize,
+    /// How many bytes were on the papers when they were last saved.
+    pub(crate) bytes: usize,
 }
 
 /// Runs a machine, whose paper is standard output. Disks that were written are saved while its program waits for a key, once so many
-/// instructions were made since the last save as the form says. The files of punch and line printer get what was put on paper before a key is
-/// waited for. Where a save fails, or an end is asked for, the run is broken off.
+/// instructions were made since the last save as the form says. The files of the papers get what was put on paper before a key is waited for.
+/// Where a save fails, or an end is asked for, the run is broken off.
 pub fn run_rounds<H: Host, I: ByteReader>(
     host: H,
     alloc: Global,
@@ -84,8 +86,7 @@ pub fn run_rounds<H: Host, I: ByteReader>(
     let mut last = LastSave {
         steps: 0,
         transfers: 0,
-        frames: 0,
-        characters: 0,
+        bytes: 0,
     };
     let mut host = host;
     loop {
@@ -102,51 +103,59 @@ pub fn run_rounds<H: Host, I: ByteReader>(
         match part {
             Ok(None) => {
                 if fault.is_some() {
-                    return (host, break_run(&sitting, console, fault, Ok(())));
+                    return (host, break_run(sitting, console, fault, Ok(())));
                 }
             }
-            Ok(Some(ended)) => return (host, end_in_round(fault, Ok(ended))),
-            Err(why) => return (host, end_in_round(fault, Err(why))),
+            Ok(Some(ended)) => return (host, end_in_round(sitting, fault, Ok(ended))),
+            Err(why) => return (host, end_in_round(sitting, fault, Err(why))),
         }
         let steps = sitting.steps();
         match pause(&mut host, alloc, form, steps, console, places, &mut last) {
             Ok(false) => {}
-            Ok(true) => return (host, break_run(&sitting, console, None, Ok(()))),
-            Err(unsaved) => return (host, break_run(&sitting, console, None, Err(unsaved))),
+            Ok(true) => return (host, break_run(sitting, console, None, Ok(()))),
+            Err(unsaved) => return (host, break_run(sitting, console, None, Err(unsaved))),
         }
     }
 }
 
 /// How a run went that came to its end in a round.
-fn end_in_round(fault: Option<PrintFault>, answer: Result<Ended, TerminalFault>) -> Ran
+fn end_in_round(
+    sitting: Sitting,
+    fault: Option<PrintFault>,
+    answer: Result<Ended, TerminalFault>,
+) -> Ran
     ensures fault { result.fault ≡ fault }
     ensures answer { result.answer ≡ answer }
+    ensures absences { result.absences ≡ sitting.absences }
     ensures save { result.save ≡ Ok tt }
 {
     Ran {
         fault,
         answer,
+        absences: sitting.into_absences(),
         save: Ok(()),
     }
 }
 
 /// How a run went that is broken off, whether a print failed, and how the save before that went.
 fn break_run(
-    sitting: &Sitting,
+    sitting: Sitting,
     console: &Console,
     fault: Option<PrintFault>,
     save: Result<(), Unsaved>,
 ) -> Ran
     ensures runs { (first : Console) (keyed : Form) (before left written contents : Option (List ℕ))
-        → HasCome console_acts keyed sitting.now.operator.input first console.now sitting.now before left written contents
-        → RunsProgram console_acts keyed sitting.now.operator.input sitting.now.steps first console.now before left written contents result.answer }
+        → HasCome console_acts keyed sitting.operator.input first console.now sitting before left written contents
+        → RunsProgram console_acts keyed sitting.operator.input sitting.steps first console.now before left written contents result.absences result.answer }
     ensures ended { IfErr result.answer (λ _. ⊥) }
     ensures fault { result.fault ≡ fault }
     ensures save { result.save ≡ save }
 {
+    let ended = sitting.end_at_break(console);
     Ran {
         fault,
-        answer: Ok(sitting.end_at_break(console)),
+        answer: Ok(ended),
+        absences: sitting.into_absences(),
         save,
     }
 }
@@ -154,13 +163,18 @@ fn break_run(
 /// After how many steps the next look for a key ends a round. It is at once where an end may be asked for, since no key may come for long, and
 /// where a file gets what is put on paper. Else it is where a save may be due, or never.
 fn soonest_pause(form: &ConsoleForm, saved: u64) -> u64 {
-    if form.ends_with.is_some() || form.devices.punch.is_some() || form.devices.printer.is_some() {
+    if form.ends_with.is_some() || has_papers(&form.devices) {
         return 0;
     }
     if form.every == 0 || form.disk.is_look {
         return u64::MAX;
     }
     saved.saturating_add(u64::from(form.every))
+}
+
+/// Whether a file gets what is put on a paper.
+fn has_papers(form: &DeviceForm) -> bool {
+    form.punch.is_some() || (form.printer.is_some() || form.transfers.is_some())
 }
 
 /// Makes a round.
@@ -231,7 +245,7 @@ fn save_if_due<H: Host>(
     save_there(host, alloc, steps, console, places, last)
 }
 
-/// Has the files of punch and line printer hold what was put on paper, where that is more than they hold, and the program waits for a key.
+/// Has the files of the papers hold what was put on paper, where that is more than they hold, and the program waits for a key.
 fn file_if_grown<H: Host>(
     host: &mut H,
     alloc: Global,
@@ -244,13 +258,12 @@ fn file_if_grown<H: Host>(
     if !is_grown(console, last) {
         return Ok(());
     }
-    match save_papers(host, alloc, &console.papers, &places.punch, &places.printer) {
+    match save_papers(host, alloc, &console.papers, &places.papers) {
         Ok(()) => {
             *last = LastSave {
                 steps: last.steps,
                 transfers: last.transfers,
-                frames: console.papers.punch.bytes().len(),
-                characters: console.papers.printer.bytes().len(),
+                bytes: console.papers.len(),
             };
             Ok(())
         }
@@ -258,13 +271,11 @@ fn file_if_grown<H: Host>(
     }
 }
 
-/// Whether the program waits for a key, and a paper has more than was saved of it.
+/// Whether the program waits for a key, and more bytes are on the papers than were saved.
 fn is_grown(console: &Console, last: &LastSave) -> bool
     ensures { result ≡ spec.is_grown console.now last.now }
 {
-    let papers = &console.papers;
-    (papers.punch.bytes().len() != last.frames || papers.printer.bytes().len() != last.characters)
-        && console.is_waiting()
+    console.papers.len() != last.bytes && console.is_waiting()
 }
 
 /// Saves the disks after so many steps. It counts as the last save where a file was written, and as the last one that was tried where none failed.
@@ -290,8 +301,7 @@ fn save_there<H: Host>(
                     steps
                 },
                 transfers: console.transfers,
-                frames: last.frames,
-                characters: last.characters,
+                bytes: last.bytes,
             };
             Ok(())
         }

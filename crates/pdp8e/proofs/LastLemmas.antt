@@ -13,10 +13,10 @@ use Rattle.cpu8e.specs.Step as Cpu
 use Rattle.cpu8e.specs.Runs as CpuRuns
 use Rattle.cpu8e.specs.Unasked as CpuUnasked
 use Rattle.pdp8e.specs.Devices.{DevicesState, ReaderState, WriterState, ClockState, clock_ended, devices_ended, instructions_after}
-use Rattle.pdp8e.specs.State.{Pdp8e, IsJoined, is_any_requesting, is_quiet, machine_of, with_processor}
-use Rattle.pdp8e.specs.Step.{at_beginning, going_on, is_for_devices, is_for_disk, is_disk_word, is_caf, after_instruction, passing, step}
+use Rattle.pdp8e.specs.State.{Pdp8e, IsJoined, is_any_requesting, is_quiet, machine_of, with_processor, printer_done}
+use Rattle.pdp8e.specs.Step.{after_beginning, at_beginning, going_on, is_for_devices, is_for_disk, is_disk_word, is_caf, after_instruction, passing, step, move_in}
 use Rattle.pdp8e.specs.DeviceInstructions.{is_device_word}
-use Rattle.pdp8e.specs.Runs.{printing_step, after_keys, after, after_time}
+use Rattle.pdp8e.specs.Runs.{printing_step, with_printer_done, after_keys, after, after_time}
 use Rattle.pdp8e.specs.Lasting.{TimeLasts, DiskLasts, DevicesLast, Lasts}
 use Rattle.cpu8e.proofs.CommonLemmas.{within}
 use Rattle.pdp8e.proofs.StillLemmas.{alone, either, executed, idle_reader, idle_writer, if_false, if_true, interrupted, neither, other_row, quiet_is}
@@ -252,6 +252,52 @@ answers_lasting stays looks m count is l unasked none k below =
     ap (λ (x : Pdp8e). (printing_step x).1) (after_lasting stays looks m count is l unasked none k (omega (arith, below)))
     ∙ ap (λ (r : Pdp8e × Stepped). r.1) (next_lasting stays looks m count is l unasked none k below)
     ∙ (unasked k below).answer
+
+-- nothing ends in the beginning of these steps
+begins_still : (m : Pdp8e) (count : ℕ) → IsJoined m → Lasts m (suc count) → after_beginning m ≡ m
+begins_still m count is l = either m.processor.base.running
+    (λ yes. if_true m.processor.base.running (at_beginning m) m yes ∙ begun_lasting m count is l)
+    (λ no. if_false m.processor.base.running (at_beginning m) m no)
+
+pub begins_lasting : Requests → (looks : Bool) (m : Pdp8e) (count : ℕ) → IsJoined m → Lasts m count → CpuUnasked.AreUnasked looks m.processor count → MeetsNone m.processor count
+    → (k : ℕ) → k < count → after_beginning (with_printer_done (after k m)) ≡ with_printer_done (after k m)
+begins_lasting stays looks m count is l unasked none k below =
+    let s = CpuRuns.after k m.processor in
+    let busy = s.base.teletype.busy in
+    let t : State8e = if busy then CpuState.printer_done s else s in
+    let x = after_time k m s in
+    let e : count ≡ k + suc (count - suc k) = omega (arith, below) in
+    let lasts = lasts_rest m s k (suc (count - suc k)) (subst (λ (n : ℕ). Lasts m n) e l) in
+    let same = ap (λ (y : Pdp8e). with_printer_done y) (after_lasting stays looks m count is l unasked none k (omega (arith, below))) ∙ ended_alone busy x s in
+    ap (λ (y : Pdp8e). after_beginning y) same
+    ∙ begins_still (with_processor x t) (count - suc k) (ended_requests busy s ∙ run_requests stays (λ _. None) k m.processor ∙ is)
+    (record { disk = lasts.disk; devices = lasts.devices })
+    ∙ sym same
+
+-- ## No transfer
+
+none_if : {A : Type 0} (runs : Bool) (x : Option A) → x ≡ None → (if runs then x else None) ≡ None
+none_if true x is = is
+none_if false x is = refl
+
+-- none ends where nothing of the disk does
+pub none_moves : (m : Pdp8e) (count : ℕ) → DiskLasts m.disk (suc count) → move_in m ≡ None
+none_moves m count l =
+    none_if m.processor.base.running (after_ends m.disk m.processor.base.core).moved
+    (ap (λ (e : DiskEnd). e.moved) (none_ends m.disk m.processor.base.core count l))
+
+done_moves : (busy : Bool) (m : Pdp8e) (count : ℕ) → DiskLasts m.disk (suc count) → move_in (if busy then printer_done m else m) ≡ None
+done_moves true m count l = none_moves (printer_done m) count l
+done_moves false m count l = none_moves m count l
+
+pub moves_lasting : (m : Pdp8e) (count : ℕ) → Lasts m count → ((k : ℕ) → k ≤ count → after k m ≡ after_time k m (CpuRuns.after k m.processor))
+    → (k : ℕ) → k < count → move_in (with_printer_done (after k m)) ≡ None
+moves_lasting m count l passes k below =
+    let s = CpuRuns.after k m.processor in
+    let e : count ≡ k + suc (count - suc k) = omega (arith, below) in
+    let rest = lasts_rest m s k (suc (count - suc k)) (subst (λ (n : ℕ). Lasts m n) e l) in
+    ap (λ (x : Pdp8e). move_in (with_printer_done x)) (passes k (omega (arith, below)))
+    ∙ done_moves s.base.teletype.busy (after_time k m s) (count - suc k) rest.disk
 
 -- ## The least time
 

@@ -1,28 +1,34 @@
 -- Steps that the processor alone quickly makes.
-use Rattle.std.proofs.Common.{◌≡◌, ℕ, zero, suc, ◌+◌, ◌/◌, ◌%◌, ◌<◌, ◌≤◌, Bool, true, false, true≢false, ◌&&◌, ◌||◌, not, nat_eq, nat_le, refl, ap, sym, subst, ◌∙◌, arith}
+use Rattle.std.proofs.Common.{◌≡◌, ℕ, zero, suc, ◌+◌, ◌/◌, ◌%◌, ◌<◌, ◌≤◌, Bool, true, false, true≢false, ◌&&◌, ◌||◌, not, nat_eq, nat_le, if◌then◌else◌, Option, None, refl, ap, sym, subst, ◌∙◌, arith}
 use Rattle.std.proofs.lemmas.Bool.{and_parts, eqb-true}
 use Rattle.std.proofs.lemmas.Bool.Decides.{nat_tests}
+use Rattle.cpu8.specs.Decoding.{is_absent}
 use Rattle.cpu8e.specs.State.{State8e}
+use Rattle.cpu8e.specs.State as CpuState
 use Rattle.cpu8e.specs.Step.{is_jump, is_transfer, next_word}
 use Rattle.cpu8e.specs.Runs as CpuRuns
 use Rattle.cpu8e.specs.Unasked as Cpu
 use Rattle.cpu8e.specs.Unasked.{changes_fields, is_quick, is_quick_transfer}
 use Rattle.terminal8e.specs.AnyTerminal as any
 use Rattle.terminal8e.specs.AnyTerminal.{GoesUnasked}
+use Rattle.terminal8.specs.declared.absences.Absence.{Absence}
+use Rattle.terminal8e.specs.Absences as CpuAbsences
 use Rattle.terminal8e.specs.Asks as CpuAsks
+use Rattle.terminal8e.proofs.AbsenceLemmas.{none-at, quick-there}
 use Rattle.terminal8e.proofs.QuickLemmas as CpuQuick
 use Rattle.rk8e.specs.State.{DiskState}
 use Rattle.rk8e.specs.Time.{disk_after}
 use Rattle.pdp8e.specs.Devices.{DevicesState, instructions_after}
 use Rattle.pdp8e.specs.State.{Pdp8e, IsJoined, is_quiet, with_processor}
 use Rattle.pdp8e.specs.Step.{is_for_devices}
-use Rattle.pdp8e.specs.Runs.{printing_step, after_keys, after, after_time, AreUnasked}
+use Rattle.pdp8e.specs.Runs.{printing_step, with_printer_done, after_keys, after, after_time, AreUnasked}
 use Rattle.pdp8e.specs.Lasting.{Lasts}
+use Rattle.pdp8e.specs.Absences.{absence_in, absence_of_step, absence_at}
 use Rattle.pdp8e.specs.Asks.{asks_for_key, is_ending, is_interrupting}
 use Rattle.pdp8e.specs.Terminal.{terminal_acts}
-use Rattle.pdp8e.proofs.AloneLemmas.{Requests}
+use Rattle.pdp8e.proofs.AloneLemmas.{Requests, ended_alone, ended_word}
 use Rattle.cpu8e.proofs.CommonLemmas.{within}
-use Rattle.pdp8e.proofs.LastLemmas.{MeetsNone, lasts_fewer, passed_none, passed_quiet, after_lasting, answers_lasting}
+use Rattle.pdp8e.proofs.LastLemmas.{MeetsNone, lasts_fewer, passed_none, passed_quiet, after_lasting, answers_lasting, begins_lasting, moves_lasting}
 use Rattle.pdp8e.proofs.StillLemmas.{either}
 
 -- ## No quick word is for disk and devices
@@ -74,10 +80,13 @@ pub unasked_steps : Requests → (looks : Bool) (m : Pdp8e) → IsJoined m → (
 unasked_steps stays looks m sees count most within all unasked =
     let lasts = lasts_fewer m count most within all in
     let none = meets_none looks m.processor count unasked in
+    let passes = after_lasting stays looks m count sees lasts unasked none in
     record {
       processor = unasked;
-      passes = after_lasting stays looks m count sees lasts unasked none;
+      passes = passes;
       answers = answers_lasting stays looks m count sees lasts unasked none;
+      begins = begins_lasting stays looks m count sees lasts unasked none;
+      moves = moves_lasting m count lasts passes;
       punch = λ some. all.devices.punch;
       printer = λ some. all.devices.printer;
     }
@@ -114,6 +123,8 @@ none_unasked looks m = record {
   passes = λ k within. let e : k ≡ 0 = omega (arith, within) in
       subst (λ n. after n m ≡ after_time n m (CpuRuns.after n m.processor)) (sym e) (sym (after_none m) ∙ passed_none m);
   answers = λ k below. absurd (omega (arith, below));
+  begins = λ k below. absurd (omega (arith, below));
+  moves = λ k below. absurd (omega (arith, below));
   punch = λ some. absurd (omega (arith, some));
   printer = λ some. absurd (omega (arith, some));
 }
@@ -134,6 +145,23 @@ none_asked m since count unasked sooner k below =
     ∙ asks_not (CpuAsks.asks_for_key (since + k) s) (not (is_ending x.disk || is_interrupting x))
     (CpuQuick.asks-not m.processor since k (unasked.processor k below) (sooner k below))
 
+none_either : (b : Bool) (o : Option Absence) → o ≡ None → (if b then None else o) ≡ None
+none_either true o h = refl
+none_either false o h = h
+
+-- no IOT of a device that isn't there is done in these steps
+pub none_absent : (looks : Bool) (m : Pdp8e) (count : ℕ) → AreUnasked looks m count → (k : ℕ) → k < count → absence_at (after k m) ≡ None
+unfolding absence_of_step
+none_absent looks m count unasked k below =
+    let s = CpuRuns.after k m.processor in
+    let busy = s.base.teletype.busy in
+    let t : State8e = if busy then CpuState.printer_done s else s in
+    ap (λ (x : Pdp8e). absence_in x) (unasked.begins k below)
+    ∙ ap (λ (x : Pdp8e). absence_in (with_printer_done x)) (unasked.passes k (omega (arith, below)))
+    ∙ ap (λ (x : Pdp8e). absence_in x) (ended_alone busy (after_time k m s) s)
+    ∙ none_either (is_for_devices (next_word t)) (CpuAbsences.absence_at t)
+    (none-at t (ap (λ w. is_absent w) (ended_word busy s) ∙ quick-there (next_word s) (unasked.processor k below).word))
+
 same_after : (k : ℕ) (m : Pdp8e) → any.after terminal_acts k m ≡ after k m
 unfolding any.after after_keys
 same_after zero m = refl
@@ -146,4 +174,5 @@ goes_unasked m new since count state unasked sooner = record {
   state = state ∙ sym (same_after count m);
   answers = λ k below. ap (λ (x : Pdp8e). (printing_step x).1) (same_after k m) ∙ unasked.answers k below;
   asks = λ k below. ap (λ (x : Pdp8e). asks_for_key (since + k) x) (same_after k m) ∙ none_asked m since count unasked sooner k below;
+  absences = λ k below. ap (λ (x : Pdp8e). absence_at x) (same_after k m) ∙ none_absent (nat_le 30000 since) m count unasked k below;
 }

@@ -12,7 +12,7 @@ use Rattle.cpu8e.specs.Step as Cpu
 use Rattle.pdp8e.specs.Devices.{DevicesState, ReaderState, WriterState, ClockState, reader_ended, writer_ended, clock_ended, devices_ended, devices_after, are_idle}
 use Rattle.pdp8e.specs.DeviceInstructions.{is_device_word}
 use Rattle.pdp8e.specs.State.{Pdp8e, IsJoined, is_still, is_quiet, machine_of, with_processor}
-use Rattle.pdp8e.specs.Step.{at_beginning, going_on, is_disk_word, is_caf, is_for_disk, is_for_devices, after_instruction, passing, step}
+use Rattle.pdp8e.specs.Step.{at_beginning, after_beginning, going_on, is_disk_word, is_caf, is_for_disk, is_for_devices, after_instruction, move_in, passing, step}
 
 -- ## No time is left
 
@@ -138,6 +138,21 @@ begun_still m is s =
     ap (λ (e : DiskEnd). machine_of (with_core m.processor e.core) e.disk (devices_ended m.devices)) (no_ends m.disk m.processor.base.core s.disk)
     ∙ ap (λ (d : DevicesState). machine_of m.processor m.disk d) (no_device_ends m.devices s.devices)
     ∙ ap (λ (r : Bool). with_processor m (with_request m.processor r)) (sym is)
+
+-- so the beginning of a step does nothing, and no transfer ends
+pub begins_still : (m : Pdp8e) → IsJoined m → is_quiet m.disk m.devices ≡ true → m ≡ after_beginning m
+begins_still m is still = by_running m m.processor.base.running is (quiet_is m still)
+  where
+    by_running : (m : Pdp8e) (runs : Bool) → IsJoined m → AreQuiet m → m ≡ (if runs then at_beginning m else m)
+    by_running m true is s = sym (begun_still m is s)
+    by_running m false is s = refl
+
+pub moves_still : (m : Pdp8e) → is_quiet m.disk m.devices ≡ true → None ≡ move_in m
+moves_still m still = by_running m m.processor.base.running (quiet_is m still)
+  where
+    by_running : (m : Pdp8e) (runs : Bool) → AreQuiet m → None ≡ (if runs then (after_ends m.disk m.processor.base.core).moved else None)
+    by_running m true s = sym (ap (λ (e : DiskEnd). e.moved) (no_ends m.disk m.processor.base.core s.disk))
+    by_running m false s = refl
 
 passed_still : (m : Pdp8e) → AreQuiet m → passing m ≡ m
 passed_still m s =

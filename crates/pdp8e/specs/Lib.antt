@@ -4,8 +4,10 @@ pub mod State
 pub mod Step
 pub mod Runs
 pub mod Lasting
+pub mod Transfers
 pub mod Papers
 pub mod Asks
+pub mod Absences
 pub mod Terminal
 pub mod TerminalSteps
 pub mod Laws

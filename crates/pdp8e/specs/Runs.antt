@@ -8,7 +8,7 @@ use Rattle.rk8e.specs.Time.{disk_after}
 use Rattle.cpu8e.specs.State.{State8e}
 use Rattle.pdp8e.specs.Devices.{instructions_after}
 use Rattle.pdp8e.specs.State.{Pdp8e, key_struck, printer_done}
-use Rattle.pdp8e.specs.Step.{step}
+use Rattle.pdp8e.specs.Step.{after_beginning, step, move_in}
 
 -- the printer ends its character where it is busy
 abbrev pub with_printer_done : Pdp8e → Pdp8e
@@ -42,10 +42,12 @@ after_time count m processor = record {
 }
 
 -- In so many steps that are quickly made the program waits for no key nor, if looks count, looks for one. They are instructions of the processor alone, which pass for what is
--- under way, and end nothing. Neither the punch nor the line printer writes.
+-- under way, and end nothing, no transfer either. Neither the punch nor the line printer writes.
 pub record AreUnasked (looks : Bool) (m : Pdp8e) (count : ℕ) : Type 0 where
   pub processor : Cpu.AreUnasked looks m.processor count
   pub passes : (k : ℕ) → k ≤ count → after k m ≡ after_time k m (CpuRuns.after k m.processor)
   pub answers : (k : ℕ) → k < count → (printing_step (after k m)).1 ≡ Ran None
+  pub begins : (k : ℕ) → k < count → after_beginning (with_printer_done (after k m)) ≡ with_printer_done (after k m)
+  pub moves : (k : ℕ) → k < count → move_in (with_printer_done (after k m)) ≡ None
   pub punch : 0 < count → m.devices.punch.writing ≡ None
   pub printer : 0 < count → m.devices.printer.writing ≡ None

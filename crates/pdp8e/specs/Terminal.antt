@@ -10,6 +10,7 @@ use Rattle.terminal8e.specs.AnyTerminal as any
 use Rattle.pdp8e.specs.State.{Pdp8e, key_struck}
 use Rattle.pdp8e.specs.Step.{after_beginning, move_in, rest_of_step}
 use Rattle.pdp8e.specs.Runs.{with_printer_done, printing_step}
+use Rattle.pdp8e.specs.Absences.{absence_at}
 use Rattle.pdp8e.specs.Asks.{asks_for_key, waits_for_key}
 
 -- what a terminal asks of it
@@ -20,6 +21,7 @@ terminal_acts = record {
   waits_for_key = waits_for_key;
   key_struck = key_struck;
   printing_step = printing_step;
+  absence_at = absence_at;
 }
 
 -- a machine, what the operator's next looks find, and the steps since the last look

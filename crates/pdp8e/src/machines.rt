@@ -7,6 +7,7 @@ ghost use Rattle.pdp8e.specs.State.{machine_of, new_machine, after_start, key_st
 ghost use Rattle.pdp8e.specs.State as spec;
 ghost use Rattle.pdp8e.specs.Devices.{are_at_rest, are_requesting, devices_ended};
 ghost use Rattle.pdp8e.specs.Boot.{booting};
+ghost use Rattle.pdp8e.specs.Absences.{absence_in};
 ghost use Rattle.pdp8e.specs.Step.{at_beginning, after_beginning, rest_of_step, going_on, is_for_devices, move_in, step};
 
 use crate::devices::Devices;
@@ -16,6 +17,8 @@ use cpu8e::Machine as Processor;
 use cpu8e::laws::request_stays;
 use rk8e::{Disk, Moved, Pack};
 use std::marker::Model;
+use terminal8::Absence;
+use terminal8e::absence_at;
 use word12::{Cell, Word};
 
 mod instructions;
@@ -221,23 +224,36 @@ impl Machine {
         if !self.processor.is_running() {
             return Stepped::Stopped;
         }
-        if self.is_quiet && !instructions::is_for_devices(self.next_word()) {
-            return self.step_processor();
-        }
-        let _moved = self.end_functions();
+        let _moved = self.begin_step();
         self.go_on()
     }
 
     /// The beginning of a step: where the machine runs, all functions of the disk that have no time left end. What a transfer moved is
-    /// answered.
+    /// answered. While nothing is under way on disk and devices it does nothing.
+    #[inline]
     pub fn begin_step(&mut self) -> Option<Moved>
         ensures state { self.new ≡ after_beginning self.old }
         ensures moved { result ≡ move_in self.old }
     {
+        if self.is_quiet {
+            return None;
+        }
         if !self.processor.is_running() {
             return None;
         }
         self.end_functions()
+    }
+
+    /// What the rest of a step does, if it is an IOT of a device that isn't there, and no interrupt. The beginning of the step is made. Disk,
+    /// reader, punch, line printer and clock are there (Small Computer Handbook).
+    #[inline]
+    pub fn absence(&self) -> Option<Absence>
+        ensures { result ≡ absence_in self.now }
+    {
+        if instructions::is_for_devices(self.next_word()) {
+            return None;
+        }
+        absence_at(&self.processor)
     }
 
     /// The rest of a step: nothing where the machine is stopped, an interrupt, or an instruction.
@@ -257,24 +273,27 @@ impl Machine {
         requires running { self.old.processor.base.running ≡ true }
         requires quiet { spec.is_quiet self.old.disk self.old.devices ≡ true }
         requires other { is_for_devices (next_word self.old.processor) ≡ false }
-        ensures state { self.new ≡ (step self.old).0 }
-        ensures answer { result ≡ (step self.old).1 }
+        ensures state { self.new ≡ (going_on self.old).0 }
+        ensures answer { result ≡ (going_on self.old).1 }
     {
         request_stays();
         self.processor.step()
     }
 
-    /// The step after its beginning.
+    /// The step after its beginning. While nothing is under way on disk and devices, most are the processor's alone.
     #[tactic(auto, unfolding(cpu8e::specs::Step::step))]
     fn go_on(&mut self) -> Stepped
         requires { self.old.processor.base.running ≡ true }
         ensures state { self.new ≡ (going_on self.old).0 }
         ensures answer { result ≡ (going_on self.old).1 }
     {
+        let word = self.next_word();
+        if self.is_quiet && !instructions::is_for_devices(word) {
+            return self.step_processor();
+        }
         if self.processor.grants_interrupt() {
             return self.processor.step();
         }
-        let word = self.next_word();
         self.execute(word)
     }
 

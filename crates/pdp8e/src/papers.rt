@@ -1,14 +1,16 @@
-//! What a run puts on paper, kept until it ends: the frames of the punch, and the characters of the line printer.
+//! What a run puts on paper, kept until it ends: the frames of the punch, the characters of the line printer, and a line of each transfer.
 
-ghost use Rattle.std.specs.Prelude.{◌≡◌, OnOk, IfOk, true};
+ghost use Rattle.std.specs.Prelude.{◌≡◌, ◌≤◌, length, IfOk};
 ghost use Rattle.pdp8e.specs.Papers as spec;
 ghost use Rattle.pdp8e.specs.Papers.{new_paper, new_papers};
 
 use crate::machines::Machine;
+use crate::transfers::transfer_line;
+use rk8e::Moved;
 use std::alloc::{AllocError, Global};
 use std::marker::Model;
 
-/// The paper of a punch or of a line printer. Where no file gets it, what is put on it is dropped.
+/// The paper of a punch, of a line printer, or of transfers. Where no file gets it, what is put on it is dropped.
 #[derive(Drop)]
 pub struct Paper {
     bytes: Vec<u8>,
@@ -17,7 +19,7 @@ pub struct Paper {
 }
 
 impl Model for Paper {
-    ghost use Rattle.std.specs.Prelude.{◌≡◌, ◌≤◌, true, vec_capacity};
+    ghost use Rattle.std.specs.Prelude.{◌≡◌, ◌≤◌, length, true, vec_capacity};
     ghost use Rattle.pdp8e.specs.Papers.{PaperState};
     ghost use Rattle.pdp8e.specs.declared.papers.TheConstants.{ROOM};
 
@@ -25,7 +27,7 @@ impl Model for Paper {
 
     ghost view = { λ p. record { kept = p.is_kept; bytes = p.bytes.items; whole = p.is_whole } };
 
-    ghost invariant = { λ p. p.is_kept ≡ true → ROOM ≤ vec_capacity p.bytes };
+    ghost invariant = { λ p. (p.is_kept ≡ true → ROOM ≤ vec_capacity p.bytes) × (length p.bytes.items ≤ ROOM) };
 }
 
 impl Paper {
@@ -45,9 +47,10 @@ impl Paper {
         })
     }
 
-    /// The bytes that were put on it.
+    /// The bytes that were put on it: at most 16,777,216.
     pub fn bytes(&self) -> &[u8]
-        ensures { result.now ≡ self.now.bytes }
+        ensures bytes { result.now ≡ self.now.bytes }
+        ensures few { length result.now ≤ 16777216 }
     {
         &self.bytes
     }
@@ -65,33 +68,44 @@ impl Paper {
         ensures { self.new ≡ spec.with_byte_if byte self.old }
     {
         if let Some(byte) = byte {
-            self.put_byte(byte);
+            self.put_text(&[byte]);
         }
     }
 
-    /// A byte is put on it. Where there is no room for it, it is lost.
-    fn put_byte(&mut self, byte: u8)
-        ensures { self.new ≡ spec.with_byte byte self.old }
+    /// The line of a transfer is put on it, if one ended.
+    #[inline]
+    fn put_line(&mut self, moved: &Option<Moved>)
+        ensures { self.new ≡ spec.with_line_if moved.now self.old }
+    {
+        if let Some(moved) = moved {
+            self.put_text(transfer_line(moved).as_slice());
+        }
+    }
+
+    /// A text is put on it. Where there is no room for all of it, none is.
+    fn put_text(&mut self, text: &[u8])
+        ensures { self.new ≡ spec.with_text text.now self.old }
     {
         if !self.is_kept {
             return;
         }
-        if self.bytes.len() >= ROOM {
+        if text.len() > ROOM - self.bytes.len() {
             self.is_whole = false;
             return;
         }
-        match self.bytes.push(byte) {
+        match self.bytes.extend_from_slice(text) {
             Ok(()) => {}
             Err(_) => unreachable!(),
         }
     }
 }
 
-/// The papers of punch and line printer.
+/// The papers of punch, line printer and transfers.
 #[derive(Drop)]
 pub struct Papers {
     pub punch: Paper,
     pub printer: Paper,
+    pub transfers: Paper,
 }
 
 impl Model for Papers {
@@ -99,27 +113,46 @@ impl Model for Papers {
 
     ghost Value = { PapersState };
 
-    ghost view = { λ p. record { punch = p.punch; printer = p.printer } };
+    ghost view = { λ p. record { punch = p.punch; printer = p.printer; transfers = p.transfers } };
 }
 
 impl Papers {
     /// Empty papers, and of which what is put on them is kept. Each of those has room for 16,777,216 bytes, which is taken here, and no memory
     /// later.
-    pub fn new(alloc: Global, has_punch: bool, has_printer: bool) -> Result<Papers, AllocError>
-        ensures { IfOk result (λ papers. papers ≡ new_papers has_punch has_printer) }
+    pub fn new(
+        alloc: Global,
+        has_punch: bool,
+        has_printer: bool,
+        has_transfers: bool,
+    ) -> Result<Papers, AllocError>
+        ensures { IfOk result (λ papers. papers ≡ new_papers has_punch has_printer has_transfers) }
     {
         let punch = Paper::new(alloc, has_punch)?;
         let printer = Paper::new(alloc, has_printer)?;
-        Ok(Papers { punch, printer })
+        let transfers = Paper::new(alloc, has_transfers)?;
+        Ok(Papers {
+            punch,
+            printer,
+            transfers,
+        })
     }
 
-    /// They get what a machine wrote in its last step. A byte for which a paper has no room is lost.
+    /// How many bytes are on them.
+    pub fn len(&self) -> usize
+        ensures { result ≡ spec.papers_length self.now }
+    {
+        self.punch.bytes().len() + self.printer.bytes().len() + self.transfers.bytes().len()
+    }
+
+    /// They get what a step left: what the machine punched and printed in it, and the line of the transfer that ended in its beginning. What a
+    /// paper has no room for is lost.
     #[inline]
-    pub fn put(&mut self, machine: &Machine)
-        ensures { self.new ≡ spec.papers_after machine.now self.old }
+    pub fn put(&mut self, moved: &Option<Moved>, machine: &Machine)
+        ensures { self.new ≡ spec.papers_after moved.now machine.now self.old }
     {
         self.punch.put(machine.punched_frame());
         self.printer.put(machine.printed_character());
+        self.transfers.put_line(moved);
     }
 }
 

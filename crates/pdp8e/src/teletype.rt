@@ -1,10 +1,15 @@
 //! The machine at a terminal.
 
 ghost use Rattle.std.specs.Prelude.{◌≡◌};
+ghost use Rattle.pdp8e.specs.Absences.{absence_at, absence_of_step};
 ghost use Rattle.pdp8e.specs.Asks.{is_ending, is_interrupting, is_at_rest};
+ghost use Rattle.pdp8e.specs.Runs.{printing_step, with_printer_done};
+ghost use Rattle.pdp8e.specs.Step.{move_in, step};
 
 use crate::Machine;
 use cpu8::Stepped;
+use rk8e::Moved;
+use terminal8::Absence;
 use terminal8e::{TerminalMachine, asks_for_key, is_late, steps_before_look, waits_for_key};
 
 impl TerminalMachine for Machine {
@@ -32,17 +37,61 @@ impl TerminalMachine for Machine {
     }
 
     #[inline]
-    fn make_step(&mut self) -> Stepped {
-        if self.processor().is_busy() {
-            self.end_character();
-        }
-        self.step()
+    fn make_step(&mut self) -> (Stepped, Option<Absence>) {
+        let parts = self.step_by_parts();
+        (parts.did, parts.absence)
     }
 
     #[inline]
     fn make_quick_steps(&mut self, since: u64, n: u64) -> u64 {
         let most = steps_before_look(since, self.processor(), n);
         self.run_unasked(most, is_late(since)) as u64
+    }
+}
+
+/// What a step comes to.
+#[derive(Clone, Copy)]
+pub struct StepParts {
+    pub did: Stepped,
+
+    /// What a transfer moved, if one ended in the beginning of the step.
+    pub transfer: Option<Moved>,
+
+    /// The IOT of a device that isn't there, if the step was one.
+    pub absence: Option<Absence>,
+}
+
+impl Machine {
+    /// A step, before which the printer ends its character where it is busy. It is made by its parts.
+    #[inline]
+    pub fn step_by_parts(&mut self) -> StepParts
+        ensures state { self.new ≡ (printing_step self.old).0 }
+        ensures did { result.did ≡ (printing_step self.old).1 }
+        ensures transfer { result.transfer ≡ move_in (with_printer_done self.old) }
+        ensures absence { result.absence ≡ absence_at self.old }
+    {
+        if self.processor().is_busy() {
+            self.end_character();
+        }
+        make_parts(self)
+    }
+}
+
+/// A step by its parts.
+#[inline]
+fn make_parts(machine: &mut Machine) -> StepParts
+    ensures state { machine.new ≡ (step machine.old).0 }
+    ensures did { result.did ≡ (step machine.old).1 }
+    ensures transfer { result.transfer ≡ move_in machine.old }
+    ensures absence { result.absence ≡ absence_of_step machine.old }
+{
+    let transfer = machine.begin_step();
+    let absence = machine.absence();
+    let did = machine.finish_step();
+    StepParts {
+        did,
+        transfer,
+        absence,
     }
 }
 

@@ -79,7 +79,8 @@ impl<'k> Terminal<'k> {
     {
         self.attend();
         self.since += 1;
-        self.machine.make_step()
+        let (did, _absence) = self.machine.make_step();
+        did
     }
 
     /// The beginning of a step. A key is struck where the program asks for one, the printer ends its character where it is busy, and functions

@@ -1,5 +1,5 @@
 -- When disks and papers are saved.
-use Rattle.std.proofs.Common.{◌≡◌, ◌≢◌, ◌⊎◌, ◌∙◌, ◌&&◌, ◌||◌, ◌-◌, ℕ, Bool, true, false, true≢false, not, nat_eq, nat_le, nat_lt, Option, None, Some, String, Result, Ok, Err, List, length, refl, sym, subst, ap, inl, inr, eq-eqb}
+use Rattle.std.proofs.Common.{◌≡◌, ◌≢◌, ◌∙◌, ◌&&◌, ◌-◌, ℕ, Bool, true, false, true≢false, not, nat_eq, nat_le, nat_lt, Option, None, Some, String, Result, Ok, Err, List, refl, sym, subst, ap, inl, inr, eq-eqb}
 use Rattle.std.proofs.lemmas.Bool.{and_parts, leb-true, ltb-true, not-true}
 use Rattle.std.specs.Global.{Global}
 use Rattle.hosts.specs.Event.{Event}
@@ -7,7 +7,7 @@ use Rattle.hosts.specs.Streams.{changes_at}
 use Rattle.outcome.specs.declared.endings.Ending.{Ending}
 use Rattle.program_tasks.specs.declared.boots.ConsoleForm.{ConsoleForm}
 use Rattle.image_files.specs.Laws.{ChangesNothing}
-use Rattle.drive_files.specs.Consoles.{is_at_wait, is_waiting}
+use Rattle.drive_files.specs.Consoles.{bytes_on_paper, is_at_wait, is_waiting}
 use Rattle.drive_files.specs.Rounds.{AsksAfter, AsksForEnd, DoesAfter, DoesBetween, FilesIfGrown, SavedPlaces, SavesIfDue, is_due, is_grown, last_after}
 use Rattle.drive_files.specs.declared.rounds.Unsaved.{Unsaved}
 use Rattle.drive_files.specs.declared.rounds.Unsaved.TheVariants.{Disk, Paper}
@@ -30,15 +30,8 @@ due form steps s kept is =
 
 pub grown : (s : Console) (kept : SavedPlaces) → is_grown s kept.1 ≡ true → IsGrown s kept
 grown s kept is =
-    let two = and_parts (not (nat_eq (length s.papers.punch.bytes) kept.1.frames) || not (nat_eq (length s.papers.printer.bytes) kept.1.characters)) (is_waiting s) is in
-    record { grown = either-apart (length s.papers.punch.bytes) kept.1.frames (length s.papers.printer.bytes) kept.1.characters two.0; waits = two.1 }
-  where
-    one-apart : (a b : Bool) (A B : Type 0) → (a ≡ true → A) → (b ≡ true → B) → (a || b) ≡ true → A ⊎ B
-    one-apart true b A B first second is = inl (first is)
-    one-apart false b A B first second is = inr (second is)
-
-    either-apart : (a b c d : ℕ) → (not (nat_eq a b) || not (nat_eq c d)) ≡ true → (a ≢ b) ⊎ (c ≢ d)
-    either-apart a b c d is = one-apart (not (nat_eq a b)) (not (nat_eq c d)) (a ≢ b) (c ≢ d) (apart a b) (apart c d) is
+    let two = and_parts (not (nat_eq (bytes_on_paper s) kept.1.bytes)) (is_waiting s) is in
+    record { grown = apart (bytes_on_paper s) kept.1.bytes two.0; waits = two.1 }
 
 after-then : (name : Option (String Global)) (s : Console) (saved : Result (Unit {0}) Ending) (kept after : SavedPlaces) (old : List Event) (result : Result Bool Unsaved) (new : List Event)
     → DoesAfter name s saved kept after old result new → after.0 ≡ kept.0
@@ -86,7 +79,7 @@ due-same form steps s kept mid old saved between (inl (idle, same, p)) = ap (λ 
 due-same form steps s kept mid old saved between (inr there) = ap (λ l. is_grown s l) there.last ∙ last-same saved steps s mid.0 kept
 
 filed-then : (s : Console) (places : Places) (last last' : _) (filed : Result (Unit {0}) Ending) (old between : List Event) → is_grown s last ≡ true → FilesIfGrown s places last last' old filed between
-    → SavesPapers s.papers places.punch places.printer old filed between
+    → SavesPapers s.papers places.papers old filed between
 filed-then s places last last' filed old between is (inl (idle, same, p)) = absurd (true≢false (sym is ∙ idle))
 filed-then s places last last' filed old between is (inr there) = there.saves
 

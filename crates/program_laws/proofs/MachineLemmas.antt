@@ -1,6 +1,7 @@
 -- How runs and traces end where standard output takes no more, or keys can't be read.
 use Rattle.std.proofs.Common.{◌≡◌, ◌∙◌, ◌<◌, ◌≤◌, ℕ, suc, Bool, true, false, true≢false, is_some, if◌then◌else◌, Option, None, Some, Result, Ok, Err, IfErr, List, [], ◌∷◌, ◌++◌, refl, sym, ap, subst, arith, inl, inr, le_refl}
 use Rattle.byte_reader.specs.Readings.{Reading}
+use Rattle.terminal8.specs.declared.absences.Absence.{Absence}
 use Rattle.terminal8.specs.declared.outcomes.Ended.{Ended}
 use Rattle.terminal8.specs.declared.outcomes.TerminalEnd.{TerminalEnd}
 use Rattle.terminal8.specs.declared.outcomes.TerminalEnd.TheVariants as why
@@ -14,9 +15,11 @@ use Rattle.hosts.specs.declared.faults.PrintFault.{PrintFault}
 use Rattle.hosts.specs.declared.faults.PrintFault.TheVariants.{Abandoned, Failed}
 use Rattle.host_output.specs.Printing.{ArePrinted, ArePrints, HasPrinted, last_fault}
 use Rattle.refusals.specs.declared.faults.SessionFault.TheVariants as session
+use Rattle.outcome.specs.declared.endings.Ending.{Ending}
 use Rattle.outcome.specs.declared.endings.Ending.TheVariants.{Fault, Failure, FullOutput}
-use Rattle.run_commands.specs.Lines.{ending_of_output}
-use Rattle.run_commands.specs.Printing.{EndsRun, EndsTrace, IsEndOf, PrintsRun, PrintsTrace}
+use Rattle.image_files.specs.Work.{Purely, Then}
+use Rattle.run_commands.specs.Lines.{TellsRun, ending_of_output}
+use Rattle.run_commands.specs.Printing.{EndsRun, EndsTrace, IsEndOf, NotesAbsences, PrintsRun, PrintsTrace, line_of_end}
 use Rattle.program_laws.specs.Ends.{HasLostLine}
 use Rattle.program_laws.specs.Statuses.{failed_prints}
 
@@ -81,18 +84,29 @@ no-memory is = cc
 no-reader : FullOutput ≡ Fault session.Reader → ⊥
 no-reader is = cc
 
-full-run : (stand : _) (fault : Option PrintFault) (done : Result Ended TerminalFault) (between new : List Event) → EndsRun stand fault done between (Err FullOutput) new → (done ≡ Err terminal.Writer) × (new ≡ between)
-full-run stand fault (Ok ended) between new (inl p) = absurd (no-memory p.0)
-full-run stand fault (Ok ended) between new (inr p) = absurd (not-full ended.why p.after.0)
-full-run stand fault (Err terminal.Reader) between new p = absurd (no-reader p.0)
-full-run stand fault (Err terminal.Writer) between new p = (refl, p.1)
+-- notes of absent devices end no command but for want of memory
+notes-lack : (absences : List Absence) (ending : Ending) (old new : List Event) → NotesAbsences absences old (Err ending) new → ending ≡ Fault session.Memory
+notes-lack [] ending old new p = absurd p.0
+notes-lack (absence ∷ others) ending old new (inl p) = p.0
+notes-lack (absence ∷ others) ending old new (inr p) = notes-lack others ending p.between new p.after
+
+full-line : (line : _) (end : TerminalEnd) (old new : List Event) → Then (TellsRun line) (λ it. Purely (IsEndOf end)) old (Err FullOutput) new → ⊥
+full-line line end old new (inl p) = no-memory p.0
+full-line line end old new (inr p) = not-full end p.after.0
+
+full-run : (stand : _) (absences : List Absence) (fault : Option PrintFault) (done : Result Ended TerminalFault) (between new : List Event) → EndsRun stand absences fault done between (Err FullOutput) new
+    → (done ≡ Err terminal.Writer) × (new ≡ between)
+full-run stand absences fault (Ok ended) between new (inl p) = absurd (no-memory (notes-lack absences FullOutput between new p))
+full-run stand absences fault (Ok ended) between new (inr p) = absurd (full-line (line_of_end stand ended.why) ended.why p.between new p.after)
+full-run stand absences fault (Err terminal.Reader) between new p = absurd (no-reader p.0)
+full-run stand absences fault (Err terminal.Writer) between new p = (refl, p.1)
 
 caused : {A E : Type 0} (done : Result A E) (why : E) (holds : Type 0) → IfErr done (λ it. it ≡ why → holds) → done ≡ Err why → holds
 caused {A} {E} done why holds cause is = subst (λ (d : Result A E). IfErr d (λ it. it ≡ why → holds)) is cause refl
 
-pub run-loses : (runs_to : _ → Option (List ℕ) → Option (List ℕ) → Result Ended TerminalFault → Type 0) (keys : Reading) (old new : List Event) → PrintsRun runs_to keys old (Err FullOutput) new → HasLostLine old new
+pub run-loses : (runs_to : _ → Option (List ℕ) → Option (List ℕ) → List Absence → Result Ended TerminalFault → Type 0) (keys : Reading) (old new : List Event) → PrintsRun runs_to keys old (Err FullOutput) new → HasLostLine old new
 run-loses runs_to keys old new p =
-    let full = full-run p.stand p.fault p.done p.between new p.ends in
+    let full = full-run p.stand p.absences p.fault p.done p.between new p.ends in
     subst (λ (n : List Event). HasLostLine old n) (sym full.1) (has-lost old p.between p.fault p.prints (caused p.done terminal.Writer (is_some p.fault ≡ true) p.cause full.0))
 
 -- ## Traces
@@ -126,11 +140,16 @@ writer-ending None is = cc
 writer-ending (Some Abandoned) is = cc
 writer-ending (Some Failed) is = cc
 
-unread-run : (stand : _) (fault : Option PrintFault) (done : Result Ended TerminalFault) (between new : List Event) → EndsRun stand fault done between (Err (Fault session.Reader)) new → done ≡ Err terminal.Reader
-unread-run stand fault (Ok ended) between new (inl p) = absurd (keys-memory p.0)
-unread-run stand fault (Ok ended) between new (inr p) = absurd (keys-end ended.why p.after.0)
-unread-run stand fault (Err terminal.Reader) between new p = refl
-unread-run stand fault (Err terminal.Writer) between new p = absurd (writer-ending fault p.0)
+unread-line : (line : _) (end : TerminalEnd) (old new : List Event) → Then (TellsRun line) (λ it. Purely (IsEndOf end)) old (Err (Fault session.Reader)) new → ⊥
+unread-line line end old new (inl p) = keys-memory p.0
+unread-line line end old new (inr p) = keys-end end p.after.0
 
-pub run-unread : (runs_to : _ → Option (List ℕ) → Option (List ℕ) → Result Ended TerminalFault → Type 0) (keys : Reading) (old new : List Event) → PrintsRun runs_to keys old (Err (Fault session.Reader)) new → keys.has_failed
-run-unread runs_to keys old new p = caused p.done terminal.Reader keys.has_failed p.failed (unread-run p.stand p.fault p.done p.between new p.ends)
+unread-run : (stand : _) (absences : List Absence) (fault : Option PrintFault) (done : Result Ended TerminalFault) (between new : List Event)
+    → EndsRun stand absences fault done between (Err (Fault session.Reader)) new → done ≡ Err terminal.Reader
+unread-run stand absences fault (Ok ended) between new (inl p) = absurd (keys-memory (notes-lack absences (Fault session.Reader) between new p))
+unread-run stand absences fault (Ok ended) between new (inr p) = absurd (unread-line (line_of_end stand ended.why) ended.why p.between new p.after)
+unread-run stand absences fault (Err terminal.Reader) between new p = refl
+unread-run stand absences fault (Err terminal.Writer) between new p = absurd (writer-ending fault p.0)
+
+pub run-unread : (runs_to : _ → Option (List ℕ) → Option (List ℕ) → List Absence → Result Ended TerminalFault → Type 0) (keys : Reading) (old new : List Event) → PrintsRun runs_to keys old (Err (Fault session.Reader)) new → keys.has_failed
+run-unread runs_to keys old new p = caused p.done terminal.Reader keys.has_failed p.failed (unread-run p.stand p.absences p.fault p.done p.between new p.ends)

@@ -1,5 +1,5 @@
 -- When the disks and papers of a run are saved, and what is printed where a disk is refused, or not saved.
-use Rattle.std.specs.Prelude.{◌≡◌, ◌≢◌, ◌⊎◌, ◌<◌, ◌≤◌, ◌-◌, ◌∷◌, ◌++◌, [], ℕ, Bool, true, Result, Ok, Err, List, length}
+use Rattle.std.specs.Prelude.{◌≡◌, ◌≢◌, ◌⊎◌, ◌<◌, ◌≤◌, ◌-◌, ◌∷◌, ◌++◌, [], ℕ, Bool, true, Result, Ok, Err, List}
 use Rattle.hosts.specs.Event.{Event}
 use Rattle.program_reports.specs.Program.{drive_text, refusal_of_drive}
 use Rattle.program_reports.specs.declared.drives.DriveRefusal.{DriveRefusal}
@@ -8,7 +8,7 @@ use Rattle.outcome.specs.Outcomes.{outcome_of, refusal}
 use Rattle.outcome.specs.declared.endings.Ending.{Ending}
 use Rattle.outcome.specs.declared.endings.Ending.TheVariants.{Fault}
 use Rattle.program_tasks.specs.declared.boots.ConsoleForm.{ConsoleForm}
-use Rattle.drive_files.specs.Consoles.{is_at_wait, is_waiting}
+use Rattle.drive_files.specs.Consoles.{bytes_on_paper, is_at_wait, is_waiting}
 use Rattle.drive_files.specs.Devices.{SavesPapers}
 use Rattle.drive_files.specs.Rounds.{AsksAfter, DoesAfter, SavedPlaces}
 use Rattle.drive_files.specs.Saving.{SavesDrives}
@@ -41,9 +41,9 @@ NoPaperFailed (Ok it) = Unit {0}
 NoPaperFailed (Err (Disk ending)) = Unit {0}
 NoPaperFailed (Err (Paper ending)) = ⊥
 
--- a paper has more than was saved of it, or less, and the program waits for a key
+-- more bytes are on the papers than were saved, or less, and the program waits for a key
 pub record IsGrown (s : Console) (kept : SavedPlaces) : Type 0 where
-  pub grown : (length s.papers.punch.bytes ≢ kept.1.frames) ⊎ (length s.papers.printer.bytes ≢ kept.1.characters)
+  pub grown : bytes_on_paper s ≢ kept.1.bytes
   pub waits : is_waiting s ≡ true
 
 -- the disks were saved before that, or a save of one failed; or nothing was asked of the host
@@ -52,7 +52,7 @@ SavesFirst s places after old new = (new ≡ old) ⊎ ((saved : Result (Unit {0}
 
 -- the papers were saved after that, or a save of one failed; or nothing was asked of the host
 abbrev pub FilesNext : Console → Places → List Event → List Event → Type 0
-FilesNext s places old new = (new ≡ old) ⊎ ((filed : Result (Unit {0}) Ending) × SavesPapers s.papers places.punch places.printer old filed new)
+FilesNext s places old new = (new ≡ old) ⊎ ((filed : Result (Unit {0}) Ending) × SavesPapers s.papers places.papers old filed new)
 
 -- at the end of a run the disks were saved, or a save of one failed, and then the papers, or nothing
 abbrev pub SavesAtEnd : Console → Places → Places → List Event → List Event → Type 0
@@ -60,12 +60,12 @@ SavesAtEnd s places after old new = (saved : Result (Unit {0}) Ending) × (betwe
 
 -- the papers were saved there, or a save of one failed, after the disks, or nothing
 abbrev pub FilesAtEnd : Console → Places → Places → List Event → List Event → Type 0
-FilesAtEnd s places after old new = (filed : Result (Unit {0}) Ending) × (between : List Event) × SavesFirst s places after old between × SavesPapers s.papers places.punch places.printer between filed new
+FilesAtEnd s places after old new = (filed : Result (Unit {0}) Ending) × (between : List Event) × SavesFirst s places after old between × SavesPapers s.papers places.papers between filed new
 
 -- between two parts of a run the papers were saved, after the disks, or nothing, and before it was asked for an end
 abbrev pub FilesBetween : ConsoleForm → Console → Places → Places → List Event → Bool → List Event → Type 0
 FilesBetween form s places after old is_asked new = (before written : List Event) × (filed : Result (Unit {0}) Ending)
-    × SavesFirst s places after old before × SavesPapers s.papers after.punch after.printer before filed written × AsksAfter form.ends_with filed written (Ok is_asked) new
+    × SavesFirst s places after old before × SavesPapers s.papers after.papers before filed written × AsksAfter form.ends_with filed written (Ok is_asked) new
 
 -- the line of a command that ends so is a refusal, with the drive after it if that isn't 0; or memory is wanted
 abbrev pub NamesDrive : ℕ → Ending → Type 0

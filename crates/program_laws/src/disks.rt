@@ -32,7 +32,7 @@ pub fn saved_disks<I: ByteReader>()
         → SavesAtEnd r.after r.mid r.left r.between r.kept }
 {}
 
-/// Between two parts of a run the papers of punch and line printer are saved where one has grown, unless a disk could not be saved. That is only while the
+/// Between two parts of a run the papers of punch, line printer and transfers are saved where they have grown, unless a disk could not be saved. That is only while the
 /// program waits for a key. At the end of the run they are saved too, unless a save of them has failed.
 pub fn saved_papers<I: ByteReader>()
     ensures when { (s : Console) (kept : SavedPlaces) → is_grown s kept.1 ≡ true → IsGrown s kept }

@@ -1,12 +1,14 @@
 -- What a run of an 8/E with disks at the console leaves as it was.
-use Rattle.std.proofs.Common.{◌≡◌, ◌∙◌, ℕ, zero, suc, Bool, true, false, true≢false, ◌||◌, is_some, Option, None, Some, String, Result, Ok, Err, List, ap, inl, inr, refl, subst, sym}
+use Rattle.std.proofs.Common.{◌≡◌, ◌∙◌, ℕ, zero, suc, Bool, true, false, true≢false, ◌||◌, is_some, Option, None, Some, String, Result, Ok, Err, List, [], ◌∷◌, ap, inl, inr, refl, subst, sym}
 use Rattle.std.specs.Global.{Global}
 use Rattle.byte_reader.specs.Readings.{Reading}
 use Rattle.hosts.specs.Event.{Event}
 use Rattle.hosts.specs.Streams.{changes_at}
 use Rattle.hosts.specs.declared.faults.PrintFault.{PrintFault}
 use Rattle.host_output.specs.Printing.{HasPrinted}
+use Rattle.terminal8.specs.declared.absences.Absence.{Absence}
 use Rattle.terminal8.specs.declared.outcomes.Ended.{Ended}
+use Rattle.terminal8.specs.declared.outcomes.TerminalEnd.{TerminalEnd}
 use Rattle.terminal8.specs.declared.outcomes.TerminalFault.{TerminalFault}
 use Rattle.terminal8.specs.declared.outcomes.TerminalFault.TheVariants.{Reader, Writer}
 use Rattle.pdp8e.specs.Papers.{PapersState}
@@ -15,20 +17,23 @@ use Rattle.program_tasks.specs.declared.devices.DeviceForm.{DeviceForm}
 use Rattle.outcome.specs.declared.endings.Ending.{Ending}
 use Rattle.image_files.specs.Ending.{TellsLine}
 use Rattle.image_files.specs.Laws.{KeepsFiles}
+use Rattle.image_files.specs.Saving.{IsDone}
 use Rattle.image_files.specs.Work.{Purely, Then}
 use Rattle.image_files.proofs.KeepLemmas.{purely-keeps, same, then-keeps}
 use Rattle.drive_files.specs.Opening.{OpensDrives, are_saved}
 use Rattle.drive_files.specs.Mounting.{place_of, places_of, with_papers}
-use Rattle.drive_files.specs.Devices.{OpensDevices, TakesPapers, has_papers}
+use Rattle.drive_files.specs.Devices.{OpensDevices, TakesPapers, has_papers, no_papers}
 use Rattle.drive_files.specs.declared.devices.OpenDevices.{OpenDevices}
 use Rattle.drive_files.specs.declared.opening.OpenDrives.{OpenDrives}
 use Rattle.drive_files.specs.declared.mounting.Places.{Places}
 use Rattle.drive_files.proofs.KeepLemmas.{AreNone, AreUnplaced, drives-keep, drives-unplaced, saves-no-place}
-use Rattle.drive_files.proofs.PaperKeepLemmas.{devices-keep, devices-none, saves-no-papers}
+use Rattle.drive_files.proofs.PaperKeepLemmas.{AreUnasked, devices-keep, devices-none, saves-no-papers}
 use Rattle.run_commands.specs.Lines.{TellsRun, TellsText}
 use Rattle.run_commands.specs.Machines8e.{stand_of}
-use Rattle.run_commands.specs.Printing.{EndsRun, IsEndOf, line_of_end}
+use Rattle.run_commands.specs.Printing.{EndsRun, IsEndOf, NotesAbsences, line_of_end}
 use Rattle.run_commands.specs.RunLines.{run_line}
+use Rattle.run_commands.specs.declared.run_lines.RunLine.{RunLine}
+use Rattle.run_commands.specs.declared.run_lines.RunLine.TheVariants as line
 use Rattle.run_commands.specs.declared.printing.Stand.{Stand}
 use Rattle.run_commands.specs.Boots.{BootsDisk}
 use Rattle.run_commands.specs.Bootstraps.{GetsReady, IsReady, booted_console}
@@ -48,8 +53,11 @@ or-parts : (a b : Bool) → (a || b) ≡ false → (a ≡ false) × (b ≡ false
 or-parts true b is = absurd (true≢false is)
 or-parts false b is = (refl, is)
 
-pub without-papers : (asked : DeviceForm) → has_papers asked ≡ false → (is_some asked.punch ≡ false) × (is_some asked.printer ≡ false)
-without-papers asked none = or-parts (is_some asked.punch) (is_some asked.printer) none
+pub without-papers : (asked : DeviceForm) → has_papers asked ≡ false → AreUnasked asked
+without-papers asked none =
+    let first = or-parts (is_some asked.punch) (is_some asked.printer || is_some asked.transfers) none in
+    let second = or-parts (is_some asked.printer) (is_some asked.transfers) first.1 in
+    (first.0, second.0, second.1)
 
 module _ (form : ConsoleForm) (none : has_papers form.devices ≡ false) where
   pub files-keep : KeepsFiles (OpensFiles form)
@@ -67,22 +75,20 @@ abbrev HoldNone : ConsoleFiles → Type 0
 HoldNone files = AreNone (with_papers files.equipment.devices (places_of files.drives))
 
 module _ (form : ConsoleForm) (is : are_saved form.disk ≡ false) (none : has_papers form.devices ≡ false) (files : ConsoleFiles) where
-  files-are : (papers : PapersState) (drives : OpenDrives) (devices : OpenDevices) → AreUnplaced drives → devices.punch ≡ None → devices.printer ≡ None → AreFiles papers drives devices (Ok files) → HoldNone files
-  files-are papers drives devices unplaced punch printer are = (
+  files-are : (papers : PapersState) (drives : OpenDrives) (devices : OpenDevices) → AreUnplaced drives → devices.papers ≡ no_papers → AreFiles papers drives devices (Ok files) → HoldNone files
+  files-are papers drives devices unplaced empty are = (
     ap (λ (d : OpenDrives). place_of d.disk0) are.0 ∙ unplaced.0,
     ap (λ (d : OpenDrives). place_of d.disk1) are.0 ∙ unplaced.1,
     ap (λ (d : OpenDrives). place_of d.disk2) are.0 ∙ unplaced.2,
     ap (λ (d : OpenDrives). place_of d.disk3) are.0 ∙ unplaced.3,
-    ap (λ (d : OpenDevices). d.punch) are.1 ∙ punch,
-    ap (λ (d : OpenDevices). d.printer) are.1 ∙ printer,
+    ap (λ (d : OpenDevices). d.papers) are.1 ∙ empty,
   )
 
   after-drives : (papers : PapersState) (drives : OpenDrives) (old new : List Event) → AreUnplaced drives
       → Then (OpensDevices form.devices) (λ devices. Purely (AreFiles papers drives devices)) old (Ok files) new → HoldNone files
   after-drives papers drives old new unplaced (inl ends) = absurd ends
   after-drives papers drives old new unplaced (inr it) =
-      let empty = devices-none form.devices (without-papers form.devices none) it.given old it.between it.done in
-      files-are papers drives it.given unplaced empty.0 empty.1 it.after.0
+      files-are papers drives it.given unplaced (devices-none form.devices (without-papers form.devices none) it.given old it.between it.done) it.after.0
 
   after-papers : (papers : PapersState) (old new : List Event)
       → Then (OpensDrives form.disk) (λ drives. Then (OpensDevices form.devices) (λ devices. Purely (AreFiles papers drives devices))) old (Ok files) new → HoldNone files
@@ -107,11 +113,20 @@ pub text-keeps : (line : List ℕ) → KeepsFiles (TellsText line)
 text-keeps line old (Ok it) new p path = line-keeps path line old new p
 text-keeps line old (Err ending) new p path = same path p.1
 
-pub run-ends : (stand : Stand) (why : Option PrintFault) (done : Result Ended TerminalFault) → KeepsFiles (EndsRun stand why done)
-run-ends stand why (Ok ended) old result new p path = then-keeps (TellsRun (line_of_end stand ended.why)) (λ it. Purely (IsEndOf ended.why)) (text-keeps (run_line (line_of_end stand ended.why))) (λ it. purely-keeps (IsEndOf ended.why))
-    old result new p path
-run-ends stand why (Err Reader) old result new p path = same path p.1
-run-ends stand why (Err Writer) old result new p path = same path p.1
+notes-keep : (absences : List Absence) → KeepsFiles (NotesAbsences absences)
+notes-keep [] old result new p path = purely-keeps IsDone old result new p path
+notes-keep (absence ∷ others) old result new p path =
+    then-keeps (TellsRun (line.NoDevice absence)) (λ it. NotesAbsences others) (text-keeps (run_line (line.NoDevice absence))) (λ it. notes-keep others) old result new p path
+
+line-keeps-files : (line : RunLine) (end : TerminalEnd) → KeepsFiles (Then (TellsRun line) (λ it. Purely (IsEndOf end)))
+line-keeps-files line end = then-keeps (TellsRun line) (λ it. Purely (IsEndOf end)) (text-keeps (run_line line)) (λ it. purely-keeps (IsEndOf end))
+
+pub run-ends : (stand : Stand) (absences : List Absence) (why : Option PrintFault) (done : Result Ended TerminalFault) → KeepsFiles (EndsRun stand absences why done)
+run-ends stand absences why (Ok ended) old result new p path =
+    then-keeps (NotesAbsences absences) (λ it. Then (TellsRun (line_of_end stand ended.why)) (λ it. Purely (IsEndOf ended.why))) (notes-keep absences)
+    (λ it. line-keeps-files (line_of_end stand ended.why) ended.why) old result new p path
+run-ends stand absences why (Err Reader) old result new p path = same path p.1
+run-ends stand absences why (Err Writer) old result new p path = same path p.1
 
 -- ## Between two rounds
 
@@ -134,7 +149,7 @@ saves-if-keep form steps s kept kept' old result new none (inr there) = saves-no
 files-if-keep : (s : Console) (places : Places) (last last' : _) (old : List Event) (result : Result (Unit {0}) Ending) (new : List Event) → AreNone places
     → FilesIfGrown s places last last' old result new → new ≡ old
 files-if-keep s places last last' old result new none (inl (grown, is, p)) = p.1
-files-if-keep s places last last' old result new none (inr there) = saves-no-papers s.papers places.punch places.printer none.4 none.5 old result new there.saves
+files-if-keep s places last last' old result new none (inr there) = saves-no-papers s.papers places.papers none.4 old result new there.saves
 
 after-keeps : (name : Option (String Global)) (s : Console) (saved : Result (Unit {0}) Ending) (kept kept' : SavedPlaces) (old : List Event) (result : Result Bool Unsaved) (new : List Event) → AreNone kept.0
     → DoesAfter name s saved kept kept' old result new → ((path : List ℕ) → changes_at path new ≡ changes_at path old) × AreNone kept'.0
@@ -178,14 +193,14 @@ module _ (output-keeps : (old new : List Event) (why : Option PrintFault) (path 
   rest-keeps : (s : Console) (places places' : Places) (saved : Result (Unit {0}) Unsaved) (old : List Event) (result : Result (Unit {0}) Ending) (new : List Event) → AreNone places
       → SavesRest s places places' saved old result new → new ≡ old
   rest-keeps s places places' (Ok it) old result new none p =
-      saves-no-papers s.papers places.punch places.printer none.4 none.5 p.between p.filed new p.papers ∙ (saves-no-place s.machine.disk places places' old p.saved p.between none p.disks).0
-  rest-keeps s places places' (Err (Disk ending)) old result new none (filed, papers, is, as-it-was) = saves-no-papers s.papers places.punch places.printer none.4 none.5 old filed new papers
+      saves-no-papers s.papers places.papers none.4 p.between p.filed new p.papers ∙ (saves-no-place s.machine.disk places places' old p.saved p.between none p.disks).0
+  rest-keeps s places places' (Err (Disk ending)) old result new none (filed, papers, is, as-it-was) = saves-no-papers s.papers places.papers none.4 old filed new papers
   rest-keeps s places places' (Err (Paper ending)) old result new none (saved, disks, is) = (saves-no-place s.machine.disk places places' old saved new none disks).0
 
   pub console-keeps : (form : ConsoleForm) (first : Console) (places : Places) (keys : Reading) → AreNone places → KeepsFiles (RunsConsole form first places keys)
   console-keeps form first places keys none old result new p path =
       let r = run-keeps form first p.after places p.mid keys old p.ran p.between none p.runs in
-      run-ends (stand_of p.after.machine.processor) p.ran.fault p.ran.answer p.kept p.ended new p.ends path
+      run-ends (stand_of p.after.machine.processor) p.ran.absences p.ran.fault p.ran.answer p.kept p.ended new p.ends path
       ∙ (same path (rest-keeps p.after p.mid p.left p.ran.save p.between p.saved p.kept r.1 p.saves) ∙ r.0 path)
 
   pub unsaved-keeps : (form : ConsoleForm) (keys : Reading) → are_saved form.disk ≡ false → has_papers form.devices ≡ false → KeepsFiles (BootsDisk form keys)

@@ -1,4 +1,4 @@
--- The commands on machines change no file, but for those of drives that are to be saved, and of punch and line printer.
+-- The commands on machines change no file, but for those of drives that are to be saved, and of papers.
 use Rattle.std.proofs.Common.{◌≡◌, ◌∙◌, ℕ, Bool, true, false, nat_eq, unwrap_or, Option, None, Some, Result, Ok, Err, List, ap, inl, inr}
 use Rattle.std.specs.Global.{Vec}
 use Rattle.bin_tape.specs.Items.{Item, words_of}
@@ -8,6 +8,7 @@ use Rattle.hosts.specs.Event.{Event}
 use Rattle.hosts.specs.Streams.{changes_at}
 use Rattle.hosts.specs.declared.faults.PrintFault.{PrintFault}
 use Rattle.host_output.specs.Printing.{HasPrinted}
+use Rattle.terminal8.specs.declared.absences.Absence.{Absence}
 use Rattle.terminal8.specs.declared.outcomes.Ended.{Ended}
 use Rattle.terminal8.specs.declared.outcomes.TerminalFault.{TerminalFault}
 use Rattle.trace8.specs.declared.faults.TraceFault.{TraceFault}
@@ -48,7 +49,8 @@ use Rattle.tape_commands.specs.Programs.{ReadsProgram}
 use Rattle.run_commands.specs.CorePrograms.{FindsStart, LoadsCore, LoadsProgram, StartsAt, StartsIf, TellsCell, TellsStart, program_in}
 use Rattle.run_commands.specs.Machines8i as pdp8i
 use Rattle.run_commands.specs.Machines8e as pdp8e
-use Rattle.drive_files.specs.Devices.{OpensDevices, TakesPapers, has_papers}
+use Rattle.drive_files.specs.Devices.{OpensDevices, TakesPapers, has_papers, no_papers}
+use Rattle.drive_files.specs.declared.devices.OpenDevices.{OpenDevices}
 use Rattle.run_commands.specs.Drives8e.{IsStation, OpensStation, PrintsIf, ProfilesDrives, ProfilesSaving, TracesDrives, TracesSaving}
 use Rattle.run_commands.specs.Printing.{EndsTrace, GivesProfile, PrintsRun, PrintsTrace}
 use Rattle.run_commands.specs.Profiles.{ProfilesOn, ProfilesPlain, ProfilesTape}
@@ -88,16 +90,15 @@ finds-keeps frames given items is old result new p path = starts-if-keeps (words
 -- ## A station of which no file is saved
 
 abbrev IsFileless : Station → Type 0
-IsFileless station = AreNone station.places × (station.punch ≡ None) × (station.printer ≡ None)
+IsFileless station = AreNone station.places
 
-places-none : (places : Places) (drives : OpenDrives) → places ≡ places_of drives → AreUnplaced drives → AreNone places
-places-none places drives is none = (
+places-none : (places : Places) (drives : OpenDrives) (devices : OpenDevices) → places ≡ with_papers devices (places_of drives) → AreUnplaced drives → devices.papers ≡ no_papers → AreNone places
+places-none places drives devices is none empty = (
   ap (λ (p : Places). p.place0) is ∙ none.0,
   ap (λ (p : Places). p.place1) is ∙ none.1,
   ap (λ (p : Places). p.place2) is ∙ none.2,
   ap (λ (p : Places). p.place3) is ∙ none.3,
-  ap (λ (p : Places). p.punch) is,
-  ap (λ (p : Places). p.printer) is,
+  ap (λ (p : Places). p.papers) is ∙ empty,
 )
 
 module _ (form : DiskForm) (asked : DeviceForm) (program : CoreProgram) (is : are_saved form ≡ false) (none : has_papers asked ≡ false) where
@@ -112,9 +113,7 @@ module _ (form : DiskForm) (asked : DeviceForm) (program : CoreProgram) (is : ar
       → Then (OpensDevices asked) (λ devices. Purely (IsStation form asked papers drives devices program)) old (Ok station) new → IsFileless station
   after-drives papers drives old station new unplaced (inl ends) = absurd ends
   after-drives papers drives old station new unplaced (inr it) =
-      let ready = it.after.0 in
-      let empty = devices-none asked (without-papers asked none) it.given old it.between it.done in
-      (places-none station.places drives ready.1 unplaced, ready.2 ∙ empty.0, ready.3 ∙ empty.1)
+      places-none station.places drives it.given it.after.0.1 unplaced (devices-none asked (without-papers asked none) it.given old it.between it.done)
 
   after-papers : (papers : PapersState) (old : List Event) (station : Station) (new : List Event)
       → Then (OpensDrives form) (λ drives. Then (OpensDevices asked) (λ devices. Purely (IsStation form asked papers drives devices program))) old (Ok station) new → IsFileless station
@@ -163,7 +162,7 @@ module _
     profile-saving : (most : ℕ) (station : Station) (keys : List ℕ) (flags : List Bool) → IsFileless station → KeepsFiles (ProfilesSaving most station keys flags)
     profile-saving most station keys flags none old result new p path =
         if-keeps p.text p.written p.printed new p.prints path
-        ∙ (same path (saves-no-papers p.papers station.punch station.printer none.1 none.2 p.kept p.filed p.written p.files) ∙ same path (saves-no-place p.after.machine.disk station.places p.left old p.saved p.kept none.0 p.saves).0)
+        ∙ (same path (saves-no-papers p.papers station.places.papers none.4 p.kept p.filed p.written p.files) ∙ same path (saves-no-place p.after.machine.disk station.places p.left old p.saved p.kept none p.saves).0)
 
     profile-drives : (form : DiskForm) (asked : DeviceForm) → are_saved form ≡ false → has_papers asked ≡ false → (most : ℕ) (run : Run) → KeepsFiles (ProfilesDrives form asked most run)
     profile-drives form asked is none most run old (Ok it) new (inl ends) path = absurd ends
@@ -192,8 +191,8 @@ module _
     trace-saving : (most : ℕ) (station : Station) (keys : List ℕ) (flags : List Bool) → IsFileless station → KeepsFiles (TracesSaving most station keys flags)
     trace-saving most station keys flags none old result new p path =
         trace-ends (next_cell p.after.machine.processor.base) p.fault p.done p.written p.ended new p.ends path
-        ∙ (same path (saves-no-papers p.papers station.punch station.printer none.1 none.2 p.kept p.filed p.written p.files)
-        ∙ (same path (saves-no-place p.after.machine.disk station.places p.left p.between p.saved p.kept none.0 p.saves).0 ∙ output-keeps old p.between p.fault path p.prints))
+        ∙ (same path (saves-no-papers p.papers station.places.papers none.4 p.kept p.filed p.written p.files)
+        ∙ (same path (saves-no-place p.after.machine.disk station.places p.left p.between p.saved p.kept none p.saves).0 ∙ output-keeps old p.between p.fault path p.prints))
 
     trace-drives : (form : DiskForm) (asked : DeviceForm) → are_saved form ≡ false → has_papers asked ≡ false → (most : ℕ) (run : Run) → KeepsFiles (TracesDrives form asked most run)
     trace-drives form asked is none most run old (Ok it) new (inl ends) path = absurd ends
@@ -214,8 +213,8 @@ module _
     program-reads form = then-keeps (ReadsProgram form.tape) (λ tape. LoadsProgram tape.frames.items (start_or form.start tape.start) form.console.switches)
         (program-keeps form.tape) (λ tape. program-loads tape.frames.items (start_or form.start tape.start) form.console.switches)
 
-    prints-run : (runs_to : Stand → Option (List ℕ) → Option (List ℕ) → Result Ended TerminalFault → Type 0) (keys : Reading) → KeepsFiles (PrintsRun runs_to keys)
-    prints-run runs_to keys old result new p path = run-ends p.stand p.fault p.done p.between result new p.ends path ∙ output-keeps old p.between p.fault path p.prints
+    prints-run : (runs_to : Stand → Option (List ℕ) → Option (List ℕ) → List Absence → Result Ended TerminalFault → Type 0) (keys : Reading) → KeepsFiles (PrintsRun runs_to keys)
+    prints-run runs_to keys old result new p path = run-ends p.stand p.absences p.fault p.done p.between result new p.ends path ∙ output-keeps old p.between p.fault path p.prints
 
     runs-disks : (form : ConsoleForm) (program : CoreProgram) (keys : Reading) → are_saved form.disk ≡ false → has_papers form.devices ≡ false → KeepsFiles (RunsDisks form program keys)
     runs-disks form program keys is none old (Ok it) new (inl p) path = absurd p.0

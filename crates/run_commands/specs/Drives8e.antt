@@ -1,5 +1,5 @@
 -- What an 8/E with disks and devices does with a program whose steps are printed or counted. That is its trace or its profile, and what the
--- files of disks, punch and line printer get.
+-- files of its disks and papers get.
 use Rattle.std.specs.Prelude.{◌≡◌, ℕ, Bool, true, is_some, IfErr, Option, Some, Result, Ok, Err, List}
 use Rattle.std.specs.Global.{Vec}
 use Rattle.tape_source.specs.Tags.{is_flagged}
@@ -24,7 +24,7 @@ use Rattle.outcome.specs.declared.endings.Ending.{Ending}
 use Rattle.outcome.specs.declared.endings.Ending.TheVariants.{Fault}
 use Rattle.image_files.specs.Saving.{Prints}
 use Rattle.image_files.specs.Work.{Then, Purely}
-use Rattle.drive_files.specs.Mounting.{disk_of, places_of}
+use Rattle.drive_files.specs.Mounting.{disk_of, places_of, with_papers}
 use Rattle.drive_files.specs.Opening.{OpensDrives}
 use Rattle.drive_files.specs.Saving.{SavesDrives, earlier}
 use Rattle.drive_files.specs.declared.mounting.Places.{Places}
@@ -46,8 +46,8 @@ machine_of form drives program = after_start (with_switches switches_set program
 -- it, with these devices and papers, and where the files are held
 abbrev pub IsStation : DiskForm → DeviceForm → PapersState → OpenDrives → OpenDevices → CoreProgram → Result Station Ending → Type 0
 IsStation form asked papers drives devices program (Ok station) =
-    (station.machine ≡ with_devices (machine_of form drives program) asked devices) × (station.places ≡ places_of drives)
-    × (station.punch ≡ devices.punch) × (station.printer ≡ devices.printer) × (station.papers ≡ papers)
+    (station.machine ≡ with_devices (machine_of form drives program) asked devices) × (station.places ≡ with_papers devices (places_of drives))
+    × (station.papers ≡ papers)
 IsStation form asked papers drives devices program (Err ending) = ⊥
 
 -- papers are taken, then the disks of the drives are opened, and then the files of the devices
@@ -81,7 +81,7 @@ pub record TracesSaving (most : ℕ) (station : Station) (keys : List ℕ) (flag
   pub saves : SavesDrives after.machine.disk station.places left between saved kept
   pub filed : Result (Unit {0}) Ending
   pub written : List Event
-  pub files : SavesPapers papers station.punch station.printer kept filed written
+  pub files : SavesPapers papers station.places.papers kept filed written
   pub ended : Result (Unit {0}) Ending
   pub ends : EndsTrace (next_cell after.machine.processor.base) fault done written ended new
   pub is : result ≡ earlier saved (earlier filed ended)
@@ -120,7 +120,7 @@ pub record ProfilesSaving (most : ℕ) (station : Station) (keys : List ℕ) (fl
   pub saves : SavesDrives after.machine.disk station.places left old saved kept
   pub filed : Result (Unit {0}) Ending
   pub written : List Event
-  pub files : SavesPapers papers station.punch station.printer kept filed written
+  pub files : SavesPapers papers station.places.papers kept filed written
   pub printed : Result (Unit {0}) Ending
   pub prints : PrintsIf text written printed new
   pub is : result ≡ earlier saved (earlier filed printed)

@@ -4,6 +4,7 @@ use Rattle.byte_reader.specs.Readings.{Reading}
 use Rattle.cpu8.specs.State.{next_cell}
 use Rattle.cpu8e.specs.State.{State8e, new_machine, switches_set, after_start}
 use Rattle.terminal8e.specs.Run.{RunsProgram}
+use Rattle.terminal8.specs.declared.absences.Absence.{Absence}
 use Rattle.terminal8.specs.declared.outcomes.Ended.{Ended}
 use Rattle.terminal8.specs.declared.outcomes.TerminalFault.{TerminalFault}
 use Rattle.program_tasks.specs.declared.tasks.TeletypeForm.{TeletypeForm}
@@ -23,8 +24,8 @@ stand_of s = record { cell = next_cell s.base; word = slice_index s.base.core (n
 
 -- ## Its run
 
--- a program runs at the Teletype, with these keys and this paper before and after, and ends so where the machine stands
-abbrev pub RunsTo : TeletypeForm → CoreProgram → Reading → Stand → Option (List ℕ) → Option (List ℕ) → Result Ended TerminalFault → Type 0
-RunsTo form program keys stand paper paper' done = (after : State8e)
-    × RunsProgram (form_of form.console.is_raw) (input_of form.console.is_live) (unwrap_or form.console.steps (2 ^ 64 - 1)) (machine_of program) after keys.before keys.after paper paper' done
+-- a program runs at the Teletype, with these keys and this paper before and after; it does these IOTs of absent devices, and ends so where the machine stands
+abbrev pub RunsTo : TeletypeForm → CoreProgram → Reading → Stand → Option (List ℕ) → Option (List ℕ) → List Absence → Result Ended TerminalFault → Type 0
+RunsTo form program keys stand paper paper' absences done = (after : State8e)
+    × RunsProgram (form_of form.console.is_raw) (input_of form.console.is_live) (unwrap_or form.console.steps (2 ^ 64 - 1)) (machine_of program) after keys.before keys.after paper paper' absences done
     × (stand ≡ stand_of after)

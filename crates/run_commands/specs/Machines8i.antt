@@ -6,6 +6,7 @@ use Rattle.cpu8.specs.State.{State, next_cell, new_machine, switches_set, after_
 use Rattle.terminal8.specs.Laws.{terminal_with_keys}
 use Rattle.terminal8.specs.Run.{RunsProgram}
 use Rattle.terminal8.specs.Terminal.{Terminal, IsRun, later}
+use Rattle.terminal8.specs.declared.absences.Absence.{Absence}
 use Rattle.terminal8.specs.declared.outcomes.Ended.{Ended}
 use Rattle.terminal8.specs.declared.outcomes.TerminalFault.{TerminalFault}
 use Rattle.trace8.specs.Tracing.{Traces}
@@ -33,10 +34,10 @@ terminal_of run = terminal_with_keys (machine_of run.program) run.keys.items
 
 -- ## Its steps
 
--- a program runs at the Teletype, with these keys and this paper before and after, and ends so where the machine stands
-abbrev pub RunsTo : TeletypeForm → CoreProgram → Reading → Stand → Option (List ℕ) → Option (List ℕ) → Result Ended TerminalFault → Type 0
-RunsTo form program keys stand paper paper' done = (after : State)
-    × RunsProgram (form_of form.console.is_raw) (input_of form.console.is_live) (unwrap_or form.console.steps (2 ^ 64 - 1)) (machine_of program) after keys.before keys.after paper paper' done
+-- a program runs at the Teletype, with these keys and this paper before and after; it does these IOTs of absent devices, and ends so where the machine stands
+abbrev pub RunsTo : TeletypeForm → CoreProgram → Reading → Stand → Option (List ℕ) → Option (List ℕ) → List Absence → Result Ended TerminalFault → Type 0
+RunsTo form program keys stand paper paper' absences done = (after : State)
+    × RunsProgram (form_of form.console.is_raw) (input_of form.console.is_live) (unwrap_or form.console.steps (2 ^ 64 - 1)) (machine_of program) after keys.before keys.after paper paper' absences done
     × (stand ≡ stand_of after)
 
 -- at most so many steps of a terminal are made; the paper gets a line of each, with the flagged cells tagged; it ends so, before this cell

@@ -1,7 +1,8 @@
 -- What a run, a trace and a profile print, whichever machine makes the steps.
-use Rattle.std.specs.Prelude.{◌≡◌, ℕ, Bool, true, is_some, IfErr, Option, None, Some, Result, Ok, Err, List, ◌++◌}
+use Rattle.std.specs.Prelude.{◌≡◌, ℕ, Bool, true, is_some, IfErr, Option, None, Some, Result, Ok, Err, List, [], ◌∷◌, ◌++◌}
 use Rattle.std.specs.Global.{Vec}
 use Rattle.byte_reader.specs.Readings.{Reading}
+use Rattle.terminal8.specs.declared.absences.Absence.{Absence}
 use Rattle.terminal8.specs.declared.outcomes.Ended.{Ended}
 use Rattle.terminal8.specs.declared.outcomes.TerminalEnd.{TerminalEnd}
 use Rattle.terminal8.specs.declared.outcomes.TerminalEnd.TheVariants as why
@@ -50,23 +51,33 @@ IsEndOf why.Keys result = IsDone result
 IsEndOf why.Unassigned result = IsEnding Failure result
 IsEndOf why.Limit result = IsEnding Failure result
 
--- the line of the end is printed on standard error; or the keys could not be read, or standard output took no more
-abbrev pub EndsRun : Stand → Option PrintFault → Result Ended TerminalFault → List Event → Result (Unit {0}) Ending → List Event → Type 0
-EndsRun stand fault (Ok ended) = Then (TellsRun (line_of_end stand ended.why)) (λ it. Purely (IsEndOf ended.why))
-EndsRun stand fault (Err terminal.Reader) = Purely (IsEnding (Fault session.Reader))
-EndsRun stand fault (Err terminal.Writer) = Purely (IsEnding (ending_of_output fault))
+-- a note of each of these IOTs of absent devices is printed on standard error
+abbrev pub NotesAbsences : List Absence → List Event → Result (Unit {0}) Ending → List Event → Type 0
+NotesAbsences [] = Purely IsDone
+NotesAbsences (absence ∷ others) = Then (TellsRun (line.NoDevice absence)) (λ it. NotesAbsences others)
 
--- A machine runs at the Teletype: the reader gives its keys, and standard output is its paper. Then it stands somewhere, which its end says.
-pub record PrintsRun (runs_to : Stand → Option (List ℕ) → Option (List ℕ) → Result Ended TerminalFault → Type 0) (keys : Reading) (old : List Event) (result : Result (Unit {0}) Ending) (new : List Event) : Type 0 where
+-- the line of the end is printed on standard error
+abbrev pub TellsEnd : Stand → TerminalEnd → List Event → Result (Unit {0}) Ending → List Event → Type 0
+TellsEnd stand end = Then (TellsRun (line_of_end stand end)) (λ it. Purely (IsEndOf end))
+
+-- absent devices are noted, and the line of the end is printed; or the keys could not be read, or standard output took no more
+abbrev pub EndsRun : Stand → List Absence → Option PrintFault → Result Ended TerminalFault → List Event → Result (Unit {0}) Ending → List Event → Type 0
+EndsRun stand absences fault (Ok ended) = Then (NotesAbsences absences) (λ it. TellsEnd stand ended.why)
+EndsRun stand absences fault (Err terminal.Reader) = Purely (IsEnding (Fault session.Reader))
+EndsRun stand absences fault (Err terminal.Writer) = Purely (IsEnding (ending_of_output fault))
+
+-- A machine runs at the Teletype: the reader gives its keys, and standard output is its paper. It asks these absent devices. Then it stands somewhere, which its end says.
+pub record PrintsRun (runs_to : Stand → Option (List ℕ) → Option (List ℕ) → List Absence → Result Ended TerminalFault → Type 0) (keys : Reading) (old : List Event) (result : Result (Unit {0}) Ending) (new : List Event) : Type 0 where
   pub done : Result Ended TerminalFault
   pub stand : Stand
+  pub absences : List Absence
   pub between : List Event
-  pub runs : runs_to stand (Some (output_text old)) (Some (output_text between)) done
+  pub runs : runs_to stand (Some (output_text old)) (Some (output_text between)) absences done
   pub fault : Option PrintFault
   pub prints : HasPrinted old between fault
   pub cause : IfErr done (λ it. it ≡ terminal.Writer → is_some fault ≡ true)
   pub failed : IfErr done (λ it. it ≡ terminal.Reader → keys.has_failed)
-  pub ends : EndsRun stand fault done between result new
+  pub ends : EndsRun stand absences fault done between result new
 
 -- ## A trace
 

@@ -32,6 +32,7 @@ run_text (line.Unassigned cell word) = codes "UNASSIGNED " ++ octal5 cell ++ cod
 run_text (line.KeysEnd cell) = codes "KEYS END " ++ octal5 cell
 run_text (line.Limit cell) = codes "LIMIT " ++ octal5 cell
 run_text (line.Steps ended cell) = steps_text ended cell
+run_text (line.NoDevice absence) = codes "note: no device " ++ octal4 absence.word ++ codes " at " ++ octal5 absence.cell
 
 -- a line of a run
 abbrev pub run_line : RunLine → List ℕ

@@ -1,4 +1,4 @@
--- A run of an 8/E with disks at the console, and what the files of its disks, punch and line printer get (this project's profile).
+-- A run of an 8/E with disks at the console, and what the files of its disks and papers get (this project's profile).
 use Rattle.std.specs.Prelude.{◌≡◌, ◌⊎◌, Bool, true, false, ◌||◌, is_some, Result, Ok, Err, List}
 use Rattle.byte_reader.specs.Readings.{Reading}
 use Rattle.hosts.specs.Event.{Event}
@@ -30,19 +30,19 @@ pub record SavesAll (s : Console) (places places' : Places) (old : List Event) (
   pub between : List Event
   pub filed : Result (Unit {0}) Ending
   pub disks : SavesDrives s.machine.disk places places' old saved between
-  pub papers : SavesPapers s.papers places.punch places.printer between filed new
+  pub papers : SavesPapers s.papers places.papers between filed new
   pub is : result ≡ earlier saved filed
 
 -- what is left is saved, where a disk or a paper could not be saved in the run: the papers, or the disks
 abbrev pub SavesRest : Console → Places → Places → Result (Unit {0}) Unsaved → List Event → Result (Unit {0}) Ending → List Event → Type 0
 SavesRest s places places' (Ok it) old result new = SavesAll s places places' old result new
 SavesRest s places places' (Err (Disk ending)) old result new =
-    (filed : Result (Unit {0}) Ending) × SavesPapers s.papers places.punch places.printer old filed new × (result ≡ Err ending) × (places' ≡ places)
+    (filed : Result (Unit {0}) Ending) × SavesPapers s.papers places.papers old filed new × (result ≡ Err ending) × (places' ≡ places)
 SavesRest s places places' (Err (Paper ending)) old result new =
     (saved : Result (Unit {0}) Ending) × SavesDrives s.machine.disk places places' old saved new × (result ≡ earlier saved (Err ending))
 
--- A machine runs at the console, in rounds. What is on its disks then is saved, and what was put on paper, however the run ended. Then the line of
--- its end is printed. A disk or a paper that could not be saved is how the command ends.
+-- A machine runs at the console, in rounds. What is on its disks then is saved, and what was put on paper, however the run ended. Then the IOTs of
+-- absent devices that it did are noted, and the line of its end is printed. A disk or a paper that could not be saved is how the command ends.
 pub record RunsConsole (form : ConsoleForm) (first : Console) (places : Places) (keys : Reading) (old : List Event) (result : Result (Unit {0}) Ending) (new : List Event) : Type 0 where
   pub after : Console
   pub ran : Ran
@@ -54,7 +54,7 @@ pub record RunsConsole (form : ConsoleForm) (first : Console) (places : Places) 
   pub kept : List Event
   pub saves : SavesRest after mid left ran.save between saved kept
   pub ended : Result (Unit {0}) Ending
-  pub ends : EndsRun (stand_of after.machine.processor) ran.fault ran.answer kept ended new
+  pub ends : EndsRun (stand_of after.machine.processor) ran.absences ran.fault ran.answer kept ended new
   pub is : result ≡ earlier saved ended
 
 -- ## The program of a tape
@@ -63,9 +63,9 @@ pub record RunsConsole (form : ConsoleForm) (first : Console) (places : Places) 
 abbrev pub has_disk : DiskForm → Bool
 has_disk form = is_some form.drive0.image || (is_some form.drive1.image || (is_some form.drive2.image || is_some form.drive3.image))
 
--- there is a reader with a tape, a punch or a line printer with a file, or a clock
+-- there is a reader with a tape, a punch or a line printer with a file, a file for transfers, or a clock
 abbrev pub has_device : DeviceForm → Bool
-has_device form = is_some form.reader || (is_some form.punch || (is_some form.printer || is_some form.clock))
+has_device form = is_some form.reader || (is_some form.punch || (is_some form.printer || (is_some form.transfers || is_some form.clock)))
 
 -- a program runs as one that a disk boots: where there is a disk or another device, or small letters are struck as capitals
 abbrev pub needs_console : ConsoleForm → Bool

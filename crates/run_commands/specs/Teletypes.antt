@@ -25,7 +25,7 @@ RunsOn EightI form program keys = PrintsRun (pdp8i.RunsTo form program keys) key
 RunsOn EightE form program keys = RunsOn8e (needs_console form.console) form program keys
 
 -- The program is read, and runs at the Teletype of the machine that is asked for. Where there is none to run, no key is read. No file
--- changes but those of disks, punch and line printer.
+-- changes but those of disks and papers.
 abbrev pub RunsTeletype : TeletypeForm → Reading → List Event → Result (Unit {0}) Ending → List Event → Type 0
 RunsTeletype form keys old result new = (Ends (ReadsProgramOf form) old result new × (keys.after ≡ keys.before))
     ⊎ Follows (ReadsProgramOf form) (λ program. RunsOn form.cpu form program keys) old result new

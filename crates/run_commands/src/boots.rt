@@ -12,7 +12,7 @@ use program_tasks::ConsoleForm;
 use std::alloc::Global;
 
 /// Boots the disk in drive 0 of a PDP-8/E, whose keys a reader gives and whose paper is standard output. At the end of the run each file whose
-/// disk was written gets what is on the disk, whole or not at all. The files of punch and line printer get what was written there. So they do in
+/// disk was written gets what is on the disk, whole or not at all. The files of the papers get what was put there. So they do in
 /// the run, while a key is waited for. The line of the end is printed on standard error. Where only a look is asked for, and on locked
 /// drives, no file of a disk is written. The host is given back.
 pub fn boot_disk<H: Host, I: ByteReader>(

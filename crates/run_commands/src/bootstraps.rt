@@ -20,8 +20,8 @@ pub(crate) struct Ready {
     pub(crate) files: ConsoleFiles,
 }
 
-/// Opens the disks of the drives, and the files of the devices. Their memory and that of core is taken. No file changes but those of punch and
-/// line printer, which are made or emptied.
+/// Opens the disks of the drives, and the files of the devices. Their memory and that of core is taken. No file changes but those of the
+/// papers, which are made or emptied.
 pub(crate) fn get_ready<H: Host>(
     host: &mut H,
     alloc: Global,

@@ -58,8 +58,6 @@ pub(crate) fn equipped_console(
     let Equipment { devices, papers } = equipment;
     let mut machine = machine;
     let mut places = places;
-    let (punch, printer) = put_devices(&mut machine, &form.devices, devices);
-    places.punch = punch;
-    places.printer = printer;
+    places.papers = put_devices(&mut machine, &form.devices, devices);
     (console_with(form, machine, papers), places)
 }

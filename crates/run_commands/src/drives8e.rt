@@ -1,4 +1,4 @@
-//! The 8/E with disks and devices: how its steps are printed and counted, and what the files of disks, punch and line printer get.
+//! The 8/E with disks and devices: how its steps are printed and counted, and what the files of its disks and papers get.
 ghost use Rattle.std.specs.Prelude.{◌≡◌, ◌+◌, ◌^◌, ◌<◌, Some, true, is_some, length, IfErr};
 ghost use Rattle.word12.specs.declared.sizes.TheConstants.{CORE};
 ghost use Rattle.tape_source.specs.Tags.{is_flagged};
@@ -15,8 +15,8 @@ use crate::core_programs::CoreProgram;
 use crate::printing::{counts_text, end_trace};
 use crate::runs::Run;
 use drive_files::{
-    OpenDrives, PaperPlace, Places, disk_of, earlier, open_devices, open_drives, put_devices,
-    save_drives, save_papers, take_papers,
+    OpenDrives, Places, disk_of, earlier, open_devices, open_drives, put_devices, save_drives,
+    save_papers, take_papers,
 };
 use host_output::{Before, Printer};
 use hosts::{Host, PrintFault};
@@ -54,14 +54,11 @@ pub(crate) fn machine_of(
     (machine, places)
 }
 
-/// A machine that stands where a program starts, the papers of its punch and its line printer, and where the files of these and of its disks are
-/// held.
+/// A machine that stands where a program starts, its papers, and where the files of these and of its disks are held.
 #[derive(Drop)]
 pub(crate) struct Station {
     pub(crate) machine: Machine,
     pub(crate) places: Places,
-    pub(crate) punch: Option<PaperPlace>,
-    pub(crate) printer: Option<PaperPlace>,
     pub(crate) papers: Papers,
 }
 
@@ -80,18 +77,16 @@ fn open_station<H: Host>(
     let devices = open_devices(host, alloc, asked)?;
     let (machine, places) = machine_of(form, drives, program);
     let mut machine = machine;
-    let (punch, printer) = put_devices(&mut machine, asked, devices);
+    let mut places = places;
+    places.papers = put_devices(&mut machine, asked, devices);
     Ok(Station {
         machine,
         places,
-        punch,
-        printer,
         papers,
     })
 }
 
-/// Prints a line for each of at most so many steps, and how far they went. What is on the disks then is saved, and what was punched and printed
-/// on the line printer.
+/// Prints a line for each of at most so many steps, and how far they went. What is on the disks then is saved, and what was put on paper.
 pub(crate) fn trace_8e<H: Host>(
     host: H,
     alloc: Global,
@@ -131,8 +126,6 @@ fn trace_station<H: Host>(
     let Station {
         machine,
         places,
-        punch,
-        printer,
         papers,
     } = station;
     let mut papers = papers;
@@ -150,7 +143,7 @@ fn trace_station<H: Host>(
     let cell = machine.processor().next_cell();
     let mut places = places;
     let saved = save_drives(&mut host, alloc, &mut machine, &mut places);
-    let filed = save_papers(&mut host, alloc, &papers, &punch, &printer);
+    let filed = save_papers(&mut host, alloc, &papers, &places.papers);
     let ended = end_trace(&mut host, alloc, cell, fault, done);
     (host, earlier(saved, earlier(filed, ended)))
 }
@@ -180,7 +173,7 @@ fn trace_onto<H: Host, B: Before>(
 }
 
 /// Prints the profile of at most so many steps of a program, with the line of their end. What is on the disks then is saved, and what was
-/// punched and printed on the line printer.
+/// put on paper.
 pub(crate) fn profile_8e<H: Host>(
     host: &mut H,
     alloc: Global,
@@ -217,8 +210,6 @@ fn profile_station<H: Host>(
     let Station {
         machine,
         places,
-        punch,
-        printer,
         papers,
     } = station;
     let mut papers = papers;
@@ -227,7 +218,7 @@ fn profile_station<H: Host>(
     let mut machine = terminal.into_machine();
     let mut places = places;
     let saved = save_drives(host, alloc, &mut machine, &mut places);
-    let filed = save_papers(host, alloc, &papers, &punch, &printer);
+    let filed = save_papers(host, alloc, &papers, &places.papers);
     let printed = print_if(host, text);
     earlier(saved, earlier(filed, printed))
 }

@@ -20,7 +20,7 @@ use image_files::laws::kept_files;
 use tape_commands::laws::unchanged_files as unchanged_programs;
 
 /// A law: none of these commands changes a file of the host or makes a folder, in whichever way it ends. Files of drives that are to be saved are excepted, and
-/// those of punch and line printer. Nor does what comes before a boot, but for the latter.
+/// those of papers. Nor does what comes before a boot, but for the latter.
 pub fn unchanged_files<I: ByteReader>()
     ensures profile { (form : TraceForm) → are_saved form.disk ≡ false → has_papers form.devices ≡ false → KeepsFiles (ProfilesTape form) }
     ensures trace { (form : TraceForm) → are_saved form.disk ≡ false → has_papers form.devices ≡ false → KeepsFiles (TracesTape form) }

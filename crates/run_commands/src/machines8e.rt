@@ -21,7 +21,7 @@ use outcome::Ending;
 use program_tasks::TeletypeForm;
 use std::alloc::Global;
 use std::marker::Brand;
-use terminal8::{Ended, TerminalFault};
+use terminal8::{Absences, Ended, TerminalFault};
 use terminal8e::run;
 
 /// An 8/E that stands where a program starts.
@@ -67,9 +67,16 @@ pub(crate) fn run_plain<H: Host, I: ByteReader>(
         (reading I.remaining I.has_failed keys.old keys.new) (H.history host) result.1 (H.history result.0) }
 {
     let mut machine = machine_of(program);
-    let (host, fault, done) = run_onto::<H, I, Brand>(host, keys, form, &mut machine);
+    let mut absences = Absences::new();
+    let (host, fault, done) = run_onto::<H, I, Brand>(
+        host,
+        keys,
+        form,
+        &mut machine,
+        &mut absences,
+    );
     let mut host = host;
-    let work = end_run(&mut host, alloc, stand_of(&machine), fault, done);
+    let work = end_run(&mut host, alloc, stand_of(&machine), &absences, fault, done);
     (host, work)
 }
 
@@ -79,11 +86,12 @@ fn run_onto<H: Host, I: ByteReader, B: Before>(
     keys: &mut I,
     form: &TeletypeForm,
     machine: &mut Machine,
+    absences: &mut Absences,
 ) -> (H, Option<PrintFault>, Result<Ended, TerminalFault>)
     requires { H.history host ≡ B.calls }
     ensures runs { RunsProgram (form_of form.now.console.is_raw) (input_of form.now.console.is_live) (unwrap_or form.now.console.steps (2 ^ 64 - 1))
         machine.old machine.new (I.remaining keys.old) (I.remaining keys.new)
-        (Some (output_text (H.history host))) (Some (output_text (H.history result.0))) result.2 }
+        (Some (output_text (H.history host))) (Some (output_text (H.history result.0))) absences.new result.2 }
     ensures prints { HasPrinted (H.history host) (H.history result.0) result.1 }
     ensures cause { IfErr result.2 (λ it. it ≡ terminal.Writer → is_some result.1 ≡ true) }
     ensures failed { IfErr result.2 (λ it. it ≡ terminal.Reader → I.has_failed keys.new) }
@@ -95,6 +103,7 @@ fn run_onto<H: Host, I: ByteReader, B: Before>(
         steps,
         form_of(form.console.is_raw),
         input_of(form.console.is_live),
+        absences,
         keys,
         &mut printer,
     );

@@ -27,7 +27,7 @@ use profile8::{count_fetches, no_counts};
 use program_tasks::TeletypeForm;
 use std::alloc::Global;
 use std::marker::Brand;
-use terminal8::{Ended, Terminal, TerminalFault, run};
+use terminal8::{Absences, Ended, Terminal, TerminalFault, run};
 use trace8::{TraceFault, trace};
 
 /// An 8/I that stands where a program starts.
@@ -73,9 +73,16 @@ pub(crate) fn run_8i<H: Host, I: ByteReader>(
         (reading I.remaining I.has_failed keys.old keys.new) (H.history host) result.1 (H.history result.0) }
 {
     let mut machine = machine_of(program);
-    let (host, fault, done) = run_onto::<H, I, Brand>(host, keys, form, &mut machine);
+    let mut absences = Absences::new();
+    let (host, fault, done) = run_onto::<H, I, Brand>(
+        host,
+        keys,
+        form,
+        &mut machine,
+        &mut absences,
+    );
     let mut host = host;
-    let work = end_run(&mut host, alloc, stand_of(&machine), fault, done);
+    let work = end_run(&mut host, alloc, stand_of(&machine), &absences, fault, done);
     (host, work)
 }
 
@@ -85,11 +92,12 @@ fn run_onto<H: Host, I: ByteReader, B: Before>(
     keys: &mut I,
     form: &TeletypeForm,
     machine: &mut Machine,
+    absences: &mut Absences,
 ) -> (H, Option<PrintFault>, Result<Ended, TerminalFault>)
     requires { H.history host ≡ B.calls }
     ensures runs { RunsProgram (form_of form.now.console.is_raw) (input_of form.now.console.is_live) (unwrap_or form.now.console.steps (2 ^ 64 - 1))
         machine.old machine.new (I.remaining keys.old) (I.remaining keys.new)
-        (Some (output_text (H.history host))) (Some (output_text (H.history result.0))) result.2 }
+        (Some (output_text (H.history host))) (Some (output_text (H.history result.0))) absences.new result.2 }
     ensures prints { HasPrinted (H.history host) (H.history result.0) result.1 }
     ensures cause { IfErr result.2 (λ it. it ≡ terminal.Writer → is_some result.1 ≡ true) }
     ensures failed { IfErr result.2 (λ it. it ≡ terminal.Reader → I.has_failed keys.new) }
@@ -101,6 +109,7 @@ fn run_onto<H: Host, I: ByteReader, B: Before>(
         steps,
         form_of(form.console.is_raw),
         input_of(form.console.is_live),
+        absences,
         keys,
         &mut printer,
     );

@@ -2,7 +2,7 @@
 ghost use Rattle.std.specs.Prelude.{◌≡◌, length};
 ghost use Rattle.word12.specs.declared.sizes.TheConstants.{CORE};
 ghost use Rattle.run_commands.specs.Printing as spec;
-ghost use Rattle.run_commands.specs.Printing.{EndsRun, EndsTrace, IsEndOf};
+ghost use Rattle.run_commands.specs.Printing.{EndsRun, EndsTrace, IsEndOf, NotesAbsences, TellsEnd};
 ghost use Rattle.run_commands.specs.RunSteps.{ShowsCounts};
 
 use crate::lines::{ending_of_output, tell_run};
@@ -13,7 +13,7 @@ use outcome::Ending;
 use profile8::profile_text;
 use refusals::SessionFault;
 use std::alloc::Global;
-use terminal8::{Ended, TerminalEnd, TerminalFault};
+use terminal8::{Absence, Absences, Ended, TerminalEnd, TerminalFault};
 use trace8::TraceFault;
 use word12::{Cell, Word};
 
@@ -30,23 +30,50 @@ pub(crate) struct Stand {
     pub mq: Option<Word>,
 }
 
-/// Prints on standard error why a machine goes no further.
+/// Prints on standard error which absent devices a program asked, and why its machine goes no further.
 pub(crate) fn end_run<H: Host>(
     host: &mut H,
     alloc: Global,
     stand: Stand,
+    absences: &Absences,
     fault: Option<PrintFault>,
     done: Result<Ended, TerminalFault>,
 ) -> Result<(), Ending>
-    ensures { EndsRun stand fault done (H.history host.old) result (H.history host.new) }
+    ensures { EndsRun stand absences.now fault done (H.history host.old) result (H.history host.new) }
 {
     match done {
         Ok(ended) => {
-            tell_run(host, alloc, &line_of_end(stand, ended.why))?;
-            end_of(ended.why)
+            note_absences(host, alloc, absences.as_slice())?;
+            tell_end(host, alloc, stand, ended.why)
         }
         Err(TerminalFault::Reader) => Err(Ending::Fault(SessionFault::Reader)),
         Err(TerminalFault::Writer) => Err(ending_of_output(fault)),
+    }
+}
+
+/// Prints the line of a machine that goes no further. The answer is how the command ends by that.
+fn tell_end<H: Host>(
+    host: &mut H,
+    alloc: Global,
+    stand: Stand,
+    why: TerminalEnd,
+) -> Result<(), Ending>
+    ensures { TellsEnd stand why (H.history host.old) result (H.history host.new) }
+{
+    tell_run(host, alloc, &line_of_end(stand, why))?;
+    end_of(why)
+}
+
+/// Prints a note of each of these IOTs of absent devices.
+fn note_absences<H: Host>(host: &mut H, alloc: Global, absences: &[Absence]) -> Result<(), Ending>
+    ensures { NotesAbsences absences.now (H.history host.old) result (H.history host.new) }
+{
+    match absences {
+        [] => Ok(()),
+        [absence, others @ ..] => {
+            tell_run(host, alloc, &RunLine::NoDevice(*absence))?;
+            note_absences(host, alloc, others)
+        }
     }
 }
 

@@ -16,7 +16,7 @@ use std::alloc::Global;
 const PROFILE_STEPS: u64 = 1_000_000;
 
 /// Prints how often each cell was fetched, which cells of the tape never were, and how far the program went. On an 8/E each file whose disk was
-/// written gets what is on it, and the files of punch and line printer get what was written there.
+/// written gets what is on it, and the files of the papers get what was put there.
 pub fn profile_tape<H: Host>(host: &mut H, alloc: Global, form: &TraceForm) -> Result<(), Ending>
     ensures { ProfilesTape form.now (H.history host.old) result (H.history host.new) }
 {

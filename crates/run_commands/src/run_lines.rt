@@ -9,7 +9,7 @@ ghost use Rattle.run_commands.specs.RunLines.{halted_text, run_text, steps_text,
 use outcome::Ending;
 use refusals::text_lines::{TextLine, put, put_number};
 use std::alloc::{AllocError, Global};
-use terminal8::{Ended, TerminalEnd};
+use terminal8::{Absence, Ended, TerminalEnd};
 use word12::{Cell, Word};
 
 /// How far a machine at a terminal went, and why no further.
@@ -32,6 +32,9 @@ pub(crate) enum RunLine {
 
     /// It went so far, up to this cell.
     Steps(Ended, Cell),
+
+    /// It did an IOT of a device that isn't there.
+    NoDevice(Absence),
 }
 
 /// The line of a run.
@@ -81,6 +84,12 @@ fn put_text(text: &mut TextLine, line: RunLine)
             put_cell(text, cell);
         }
         RunLine::Steps(ended, cell) => put_steps(text, ended, cell),
+        RunLine::NoDevice(absence) => {
+            put(text, b"note: no device ");
+            put(text, &absence.word.octal4());
+            put(text, b" at ");
+            put_cell(text, absence.cell);
+        }
     }
 }
 

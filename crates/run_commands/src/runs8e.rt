@@ -1,4 +1,4 @@
-//! A run of an 8/E with disks at the console, and what the files of its disks, punch and line printer get.
+//! A run of an 8/E with disks at the console, and what the files of its disks and papers get.
 ghost use Rattle.std.specs.Prelude.{◌≡◌, true};
 ghost use Rattle.byte_reader.specs.Readings.{reading};
 ghost use Rattle.drive_files.specs.Consoles.{console_acts};
@@ -86,18 +86,18 @@ fn has_disk(form: &DiskForm) -> bool
     first || (second || (third || fourth))
 }
 
-/// Whether there is a reader with a tape, a punch or a line printer with a file, or a clock.
+/// Whether there is a reader with a tape, a punch or a line printer with a file, a file for transfers, or a clock.
 fn has_device(form: &DeviceForm) -> bool
     ensures { result ≡ spec.has_device form.now }
 {
     let (reader, punch) = (form.reader.is_some(), form.punch.is_some());
-    let (printer, clock) = (form.printer.is_some(), form.clock.is_some());
-    reader || (punch || (printer || clock))
+    let (printer, transfers) = (form.printer.is_some(), form.transfers.is_some());
+    reader || (punch || (printer || (transfers || form.clock.is_some())))
 }
 
 /// Runs a machine at the console, whose keys a reader gives and whose paper is standard output. At the end of the run each file whose disk was
-/// written gets what is on the disk, whole or not at all. The files of punch and line printer get what was written there. So they do in the
-/// run, while a key is waited for. The line of the end is printed on standard error.
+/// written gets what is on the disk, whole or not at all. The files of the papers get what was put there. So they do in the run, while a key
+/// is waited for. The line of the end is printed on standard error.
 pub(crate) fn run_console<H: Host, I: ByteReader>(
     host: H,
     alloc: Global,
@@ -114,13 +114,14 @@ pub(crate) fn run_console<H: Host, I: ByteReader>(
     let (host, ran) = run_rounds(host, alloc, keys, form, &mut console, &mut places);
     let Ran {
         fault,
+        absences,
         answer,
         save,
     } = ran;
     let mut host = host;
     let stand = stand_of(console.machine.processor());
     let saved = save_rest(&mut host, alloc, &mut console, &mut places, save);
-    let ended = end_run(&mut host, alloc, stand, fault, answer);
+    let ended = end_run(&mut host, alloc, stand, &absences, fault, answer);
     (host, earlier(saved, ended))
 }
 
@@ -138,13 +139,7 @@ fn save_rest<H: Host>(
         Ok(()) => save_all(host, alloc, console, places),
         Err(unsaved) => match unsaved {
             Unsaved::Disk(ending) => {
-                let filed = save_papers(
-                    host,
-                    alloc,
-                    &console.papers,
-                    &places.punch,
-                    &places.printer,
-                );
+                let filed = save_papers(host, alloc, &console.papers, &places.papers);
                 earlier(Err(ending), filed)
             }
             Unsaved::Paper(ending) => {
@@ -165,6 +160,6 @@ fn save_all<H: Host>(
     ensures { SavesAll console.old places.old places.new (H.history host.old) result (H.history host.new) }
 {
     let saved = save_drives(host, alloc, &mut console.machine, places);
-    let filed = save_papers(host, alloc, &console.papers, &places.punch, &places.printer);
+    let filed = save_papers(host, alloc, &console.papers, &places.papers);
     earlier(saved, filed)
 }

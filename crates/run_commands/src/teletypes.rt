@@ -15,7 +15,7 @@ use std::alloc::Global;
 use tape_commands::program_of;
 
 /// Loads a tape or a core image into a new machine, and runs it at the Teletype, whose keys a reader gives. The line of its end is printed
-/// on standard error. No file changes but those of an 8/E's disks, punch and line printer. The host is given back.
+/// on standard error. No file changes but those of an 8/E's disks and papers. The host is given back.
 pub fn run_teletype<H: Host, I: ByteReader>(
     host: H,
     alloc: Global,

@@ -15,7 +15,7 @@ use std::alloc::Global;
 const TRACE_STEPS: u64 = 1_000;
 
 /// Prints a line for each step of a program, and how far it went. On an 8/E each file whose disk was written gets what is on it, and the
-/// files of punch and line printer get what was written there. The host is given back.
+/// files of the papers get what was put there. The host is given back.
 pub fn trace_tape<H: Host>(host: H, alloc: Global, form: &TraceForm) -> (H, Result<(), Ending>)
     ensures { TracesTape form.now (H.history host) result.1 (H.history result.0) }
 {

@@ -6,6 +6,8 @@ use Rattle.cpu8.specs.State.{State}
 use Rattle.cpu8.specs.Laws.{runs_on}
 use Rattle.cpu8.specs.declared.outcomes.Stepped.{Stepped}
 use Rattle.cpu8.specs.declared.outcomes.Stepped.TheVariants.{Stopped, Interrupted, Ran, Halted, Unassigned}
+use Rattle.terminal8.specs.Absences.{absences_of}
+use Rattle.terminal8.specs.declared.absences.Absence.{Absence}
 use Rattle.terminal8.specs.Keys.{fresh, keys_from, keys_of}
 use Rattle.terminal8.specs.KeySteps.{keyboard_after}
 use Rattle.terminal8.specs.Terminal.{Terminal, new_terminal, later, last_did, characters_of, visible_characters, has_halted, GoesOn, Ends, IsRun}
@@ -20,9 +22,9 @@ use Rattle.terminal8.proofs.KeyLemmas.{keys_more}
 
 -- ## Known bytes
 
-pub whole-run : (form : Form) (n : ℕ) (old new : State) (bytes left : List ℕ) (w w' : Option (List ℕ)) (ended : Ended)
-    → RunsProgram form Ending n old new (Some bytes) (Some left) w w' (Ok ended) → IsWholeRun (terminal_of form old bytes) n new w w' ended
-whole-run form n old new bytes left w w' ended h =
+pub whole-run : (form : Form) (n : ℕ) (old new : State) (bytes left : List ℕ) (w w' : Option (List ℕ)) (f : List Absence) (ended : Ended)
+    → RunsProgram form Ending n old new (Some bytes) (Some left) w w' f (Ok ended) → IsWholeRun (terminal_of form old bytes) n new w w' f ended
+whole-run form n old new bytes left w w' f ended h =
     let m = h.0.made in
     let k = keyboard_after (fresh form) m.bytes in
     let rest : List ℕ = m.ahead ++ left in
@@ -39,6 +41,7 @@ whole-run form n old new bytes left w w' ended h =
       run = subst (λ t. IsRun t n ended.steps ended.why) (sym same) (h.0.run more may);
       machine = ap (λ t. (later ended.steps t).machine) same ∙ m.machine more may;
       printed = subst (λ t. Appends w w' (visible_characters (characters_of ended.steps t))) (sym same) (h.1 more may);
+      met = h.2 more may ∙ ap (λ t. absences_of ended.steps t) (sym same);
     }
 
 -- ## One end

@@ -2,6 +2,7 @@ pub mod KeyLemmas
 pub mod ByteLemmas
 pub mod TerminalLemmas
 pub mod FetchLemmas
+pub mod AbsenceLemmas
 pub mod WaitLemmas
 pub mod LoopLemmas
 pub mod LookLemmas

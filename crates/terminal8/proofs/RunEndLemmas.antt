@@ -8,12 +8,14 @@ use Rattle.cpu8.specs.declared.outcomes.Stepped.{Stepped}
 use Rattle.cpu8.specs.declared.outcomes.Stepped.TheVariants.{Stopped, Interrupted, Ran, Halted, Unassigned}
 use Rattle.terminal8.specs.Keys.{Keyboard, fresh, keys_from, keys_of}
 use Rattle.terminal8.specs.KeySteps.{keyboard_after}
+use Rattle.terminal8.specs.Absences.{absence_at, with_absence_if}
 use Rattle.terminal8.specs.Asks.{asks_for_key}
 use Rattle.terminal8.specs.Terminal.{Terminal, new_terminal, after_look, after_step, next, later, last_did, characters_of, visible_characters, starves, has_halted, stop_of, GoesOn, Ends}
-use Rattle.terminal8.specs.Run.{MayFollow, FindsKey, FindsNone, HaveEnded, HasMadeSteps, IsRunOf, IsCut, WritesPrinted, RunsProgram}
+use Rattle.terminal8.specs.Run.{MayFollow, FindsKey, FindsNone, HaveEnded, HasMadeSteps, IsRunOf, IsCut, Meets, WritesPrinted, RunsProgram}
 use Rattle.terminal8.specs.KeyReads.{StrikesKeys, IsDry}
 use Rattle.terminal8.specs.Papers.{Passes, Holds}
 use Rattle.terminal8.specs.RunSteps.{IsNoneOnly, Attends, Misses, Prints, RunsInto}
+use Rattle.terminal8.specs.declared.absences.Absence.{Absence}
 use Rattle.terminal8.specs.declared.inputs.Input.{Input}
 use Rattle.terminal8.specs.declared.outcomes.TerminalFault.{TerminalFault}
 use Rattle.terminal8.specs.declared.outcomes.TerminalFault.TheVariants.{Reader, Writer}
@@ -21,11 +23,12 @@ use Rattle.terminal8.specs.declared.keyboards.Form.{Form}
 use Rattle.terminal8.specs.declared.outcomes.Ended.{Ended}
 use Rattle.terminal8.specs.declared.outcomes.TerminalEnd.{TerminalEnd}
 use Rattle.terminal8.specs.declared.outcomes.TerminalEnd.TheVariants as why
+use Rattle.terminal8.proofs.AbsenceLemmas.{absences-none}
 use Rattle.terminal8.proofs.ByteLemmas.{consumes_more, consumes_none, passes-none, passes-more, passed}
 use Rattle.terminal8.proofs.KeyLemmas.{keys_more, after_more}
 use Rattle.terminal8.proofs.LookLemmas.{finds-none, finds-more, finds-found, starves-not}
 use Rattle.terminal8.proofs.TerminalLemmas.{later-none, later-next, did-none, did-next, printed-none, printed-next, shown-more}
-use Rattle.terminal8.proofs.RunLemmas.{IsAt, IsTaken, IsRunning, none-empty, joined, may-join, taken-more, taken-next, step-at, step-last, step-prints, ends-by, no-keys, stop-keys, halt-keys, limit-keys}
+use Rattle.terminal8.proofs.RunLemmas.{IsAt, IsTaken, IsRunning, none-empty, joined, may-join, taken-more, taken-next, step-at, step-last, step-meets, step-prints, ends-by, no-keys, stop-keys, halt-keys, limit-keys}
 
 -- ## The ends of a run
 
@@ -66,9 +69,9 @@ is-cut form input n old new k a over since r r' looks steps i t within = record 
 }
 
 -- the machine stands stopped at first
-pub stopped-run : (form : Form) (input : Input) (n : ℕ) (s : State) (r w : Option (List ℕ)) (p : List ℕ) → p ≡ [] → s.running ≡ false
-    → RunsInto form input n s s r r w w p (Ok (record { steps = 0; why = why.Halt }))
-stopped-run form input n s r w p none stopped = (
+pub stopped-run : (form : Form) (input : Input) (n : ℕ) (s : State) (r w : Option (List ℕ)) (p : List ℕ) (f : List Absence) → p ≡ [] → f ≡ [] → s.running ≡ false
+    → RunsInto form input n s s r r w w p f (Ok (record { steps = 0; why = why.Halt }))
+stopped-run form input n s r w p f none empty stopped = (
   has-run form input n s s (fresh form) [] false 0 r r [] 0 why.Halt
       (record { at = λ more _. later-none (new_terminal s more); goes_on = λ more _ m below. absurd (omega (arith, below)) })
       (record { bytes = []; taken = consumes_none r; keyboard = refl; finds = finds-none input; none_only = λ before after is. absurd (none-empty before after is); at_end = λ h. absurd (true≢false (sym h)) })
@@ -80,17 +83,19 @@ stopped-run form input n s r w p none stopped = (
   λ more _.
       subst (λ (q : List ℕ). Passes w w [] q (visible_characters (characters_of 0 (new_terminal s more)))) (sym none)
       (subst (λ cs. Passes w w [] [] (visible_characters cs)) (sym (printed-none (new_terminal s more))) (passes-none w [])),
+  λ more _. empty ∙ sym (absences-none (new_terminal s more)),
 )
 
 -- all steps are made
-pub limit-run : (form : Form) (input : Input) (n : ℕ) (old new : State) (k : Keyboard) (a : List ℕ) (over : Bool) (since : ℕ) (r r' w w' : Option (List ℕ)) (p : List ℕ) (steps : ℕ)
-    → IsRunning form input old new k a over since r r' w w' p steps → steps ≡ n
-    → RunsInto form input n old new r r' w w' p (Ok (record { steps = n; why = why.Limit }))
-limit-run form input n old new k a over since r r' w w' p steps i e =
-    subst (λ (m : ℕ). RunsInto form input n old new r r' w w' p (Ok (record { steps = m; why = why.Limit }))) e (
+pub limit-run : (form : Form) (input : Input) (n : ℕ) (old new : State) (k : Keyboard) (a : List ℕ) (over : Bool) (since : ℕ) (r r' w w' : Option (List ℕ)) (p : List ℕ) (f : List Absence) (steps : ℕ)
+    → IsRunning form input old new k a over since r r' w w' p f steps → steps ≡ n
+    → RunsInto form input n old new r r' w w' p f (Ok (record { steps = n; why = why.Limit }))
+limit-run form input n old new k a over since r r' w w' p f steps i e =
+    subst (λ (m : ℕ). RunsInto form input n old new r r' w w' p f (Ok (record { steps = m; why = why.Limit }))) e (
       has-run form input n old new k a over since r r' i.looks steps why.Limit i.is_at i.taken (omega (arith, e)) (λ more may. (e, i.runs more may))
           (λ is. absurd (no-keys why.Limit limit-keys is)),
       i.prints,
+      i.met,
     )
 
 -- looks were made that found no key: the machine is where it was
@@ -110,14 +115,19 @@ moved-prints old over over' looks found w w' w'' p p' steps prints none goes hel
     let printed = visible_characters (characters_of steps (new_terminal old (looks ++ more))) in
     subst (λ cs. Passes w w'' [] p' cs) (append-nil printed) (passes-more w w' w'' [] p p' printed [] (prints more (λ h. may (goes h))) held))
 
+moved-meets : (old : State) (over over' : Bool) (looks found : List (Option ℕ)) (f : List Absence) (steps : ℕ) → Meets old looks over f steps → found ≡ []
+    → (over ≡ true → over' ≡ true) → Meets old (looks ++ found) over' f steps
+moved-meets old over over' looks found f steps met none goes =
+    subst (λ (l : List (Option ℕ)). Meets old l over' f steps) (sym (append-nil looks) ∙ ap (λ l. looks ++ l) (sym none)) (λ more may. met more (λ h. may (goes h)))
+
 -- the keys have ended for a machine that waits for one
 pub starved-run : (form : Form) (input : Input) (n : ℕ) (old s s' : State) (k k' : Keyboard) (a a' : List ℕ) (over over' : Bool) (since since' : ℕ)
-    (r r' r'' w w' w'' : Option (List ℕ)) (p p' : List ℕ) (steps : ℕ)
-    → IsRunning form input old s k a over since r r' w w' p steps → steps < n → Attends input k k' a a' over over' s s' since since' r' r'' true
-    → Passes w' w'' p p' [] → RunsInto form input n old s' r r'' w w'' p' (Ok (record { steps = steps; why = why.Keys }))
-starved-run form input n old s s' k k' a a' over over' since since' r r' r'' w w' w'' p p' steps i below at held =
+    (r r' r'' w w' w'' : Option (List ℕ)) (p p' : List ℕ) (f : List Absence) (steps : ℕ)
+    → IsRunning form input old s k a over since r r' w w' p f steps → steps < n → Attends input k k' a a' over over' s s' since since' r' r'' true
+    → Passes w' w'' p p' [] → RunsInto form input n old s' r r'' w w'' p' f (Ok (record { steps = steps; why = why.Keys }))
+starved-run form input n old s s' k k' a a' over over' since since' r r' r'' w w' w'' p p' f steps i below at held =
     let none = (at.idle refl).1 in
-    subst (λ (x : State). RunsInto form input n old x r r'' w w'' p' (Ok (record { steps = steps; why = why.Keys }))) (sym (at.idle refl).0) (
+    subst (λ (x : State). RunsInto form input n old x r r'' w w'' p' f (Ok (record { steps = steps; why = why.Keys }))) (sym (at.idle refl).0) (
       has-run form input n old s k' a' over' since r r'' (i.looks ++ at.found) steps why.Keys
           (moved-at old s over over' since i.looks at.found steps i.is_at none at.over)
           (taken-next form input k k' a a' over over' s s' since since' r r' r'' i.looks true i.taken at)
@@ -131,15 +141,16 @@ starved-run form input n old s s' k k' a a' over over' since since' r r' r'' w w
           ))
           (λ _. at.none_left refl),
       moved-prints old over over' i.looks at.found w w' w'' p p' steps i.prints none at.over held,
+      moved-meets old over over' i.looks at.found f steps i.met none at.over,
     )
 
 -- a step ends the run
 pub ended-run : (form : Form) (input : Input) (n : ℕ) (old s s' new : State) (k k' : Keyboard) (a a' : List ℕ) (over over' : Bool) (since since' : ℕ)
-    (r r' r'' w w' w'' w''' : Option (List ℕ)) (p p' p'' : List ℕ) (steps : ℕ) (did : Stepped) (y : TerminalEnd)
-    → IsRunning form input old s k a over since r r' w w' p steps → steps < n → Attends input k k' a a' over over' s s' since since' r' r'' false
+    (r r' r'' w w' w'' w''' : Option (List ℕ)) (p p' p'' : List ℕ) (f f' : List Absence) (steps : ℕ) (did : Stepped) (y : TerminalEnd)
+    → IsRunning form input old s k a over since r r' w w' p f steps → steps < n → Attends input k k' a a' over over' s s' since since' r' r'' false
     → Passes w' w'' p p' [] → new ≡ (printing_step true s').0 → did ≡ (printing_step true s').1 → Passes w'' w''' p' p'' (visible_characters (character_of did)) → stop_of did ≡ Some y
-    → RunsInto form input n old new r r'' w w''' p'' (Ok (record { steps = steps + 1; why = y }))
-ended-run form input n old s s' new k k' a a' over over' since since' r r' r'' w w' w'' w''' p p' p'' steps did y i below at none new_is did_is some is = (
+    → f' ≡ with_absence_if (absence_at s') f → RunsInto form input n old new r r'' w w''' p'' f' (Ok (record { steps = steps + 1; why = y }))
+ended-run form input n old s s' new k k' a a' over over' since since' r r' r'' w w' w'' w''' p p' p'' f f' steps did y i below at none new_is did_is some is found = (
   has-run form input n old new k' a' over' (since' + 1) r r'' (i.looks ++ at.found) (steps + 1) y
       (step-at input old s s' new k k' a a' over over' since since' r' r'' i.looks steps false i.is_at i.runs at refl new_is)
       (taken-next form input k k' a a' over over' s s' since since' r r' r'' i.looks false i.taken at)
@@ -149,44 +160,46 @@ ended-run form input n old s s' new k k' a a' over over' since since' r r' r'' w
       (step-last input old s s' k k' a a' over over' since since' r' r'' i.looks steps false did i.is_at at did_is more may) is)
       (λ keys. absurd (no-keys y (stop-keys did y is) keys)),
   step-prints input old s s' k k' a a' over over' since since' r' r'' w w' w'' w''' p p' p'' i.looks steps false did i.is_at i.prints at none did_is some,
+  step-meets input old s s' k k' a a' over over' since since' r' r'' i.looks steps false f f' i.is_at i.met at found,
 )
 
 -- the writer fails at what a step printed
 pub unwritten-run : (form : Form) (input : Input) (n : ℕ) (old s s' new : State) (k k' : Keyboard) (a a' : List ℕ) (over over' : Bool) (since since' : ℕ)
-    (r r' r'' w w' : Option (List ℕ)) (p : List ℕ) (steps : ℕ)
-    → IsRunning form input old s k a over since r r' w w' p steps → steps < n → Attends input k k' a a' over over' s s' since since' r' r'' false
+    (r r' r'' w w' : Option (List ℕ)) (p : List ℕ) (f : List Absence) (steps : ℕ)
+    → IsRunning form input old s k a over since r r' w w' p f steps → steps < n → Attends input k k' a a' over over' s s' since since' r' r'' false
     → new ≡ (printing_step true s').0 → IsCut form input n old new r r''
-unwritten-run form input n old s s' new k k' a a' over over' since since' r r' r'' w w' p steps i below at new_is =
+unwritten-run form input n old s s' new k k' a a' over over' since since' r r' r'' w w' p f steps i below at new_is =
     is-cut form input n old new k' a' over' (since' + 1) r r'' (i.looks ++ at.found) (steps + 1)
     (step-at input old s s' new k k' a a' over over' since since' r' r'' i.looks steps false i.is_at i.runs at refl new_is)
     (taken-next form input k k' a a' over over' s s' since since' r r' r'' i.looks false i.taken at)
     (omega (arith, below))
 
 -- the operator met a fault
-abbrev missed-cut : (form : Form) (input : Input) (n : ℕ) (old s : State) (k k' : Keyboard) (a a' : List ℕ) (over : Bool) (since : ℕ) (r r' r'' w w' : Option (List ℕ)) (p : List ℕ) (steps : ℕ)
-    → (i : IsRunning form input old s k a over since r r' w w' p steps) → steps ≤ n → Misses k k' a a' over r' r'' → IsCut form input n old s r r''
-missed-cut form input n old s k k' a a' over since r r' r'' w w' p steps i within m =
+abbrev missed-cut : (form : Form) (input : Input) (n : ℕ) (old s : State) (k k' : Keyboard) (a a' : List ℕ) (over : Bool) (since : ℕ) (r r' r'' w w' : Option (List ℕ)) (p : List ℕ) (f : List Absence) (steps : ℕ)
+    → (i : IsRunning form input old s k a over since r r' w w' p f steps) → steps ≤ n → Misses k k' a a' over r' r'' → IsCut form input n old s r r''
+missed-cut form input n old s k k' a a' over since r r' r'' w w' p f steps i within m =
     is-cut form input n old s k' a' over since r r'' (i.looks ++ []) steps
     (moved-at old s over over since i.looks [] steps i.is_at refl (λ h. h))
     (taken-more form input k k' a a' over over r r' r'' i.looks [] [] i.taken m.1 (finds-none input) tt (λ h. absurd (true≢false (sym h ∙ m.0))))
     within
 
-missed-runs : (form : Form) (input : Input) (n : ℕ) (old s : State) (k k' : Keyboard) (a a' : List ℕ) (over : Bool) (since : ℕ) (r r' r'' w w' w'' : Option (List ℕ)) (p p' : List ℕ) (steps : ℕ)
-    (fault : TerminalFault) → IsRunning form input old s k a over since r r' w w' p steps → steps ≤ n → Misses k k' a a' over r' r''
-    → Holds {A = Bool} w' w'' p p' (Err fault) → RunsInto form input n old s r r'' w w'' p' (Err fault)
-missed-runs form input n old s k k' a a' over since r r' r'' w w' w'' p p' steps Reader i within m held = (
-  missed-cut form input n old s k k' a a' over since r r' r'' w w' p steps i within m,
+missed-runs : (form : Form) (input : Input) (n : ℕ) (old s : State) (k k' : Keyboard) (a a' : List ℕ) (over : Bool) (since : ℕ) (r r' r'' w w' w'' : Option (List ℕ)) (p p' : List ℕ) (f : List Absence) (steps : ℕ)
+    (fault : TerminalFault) → IsRunning form input old s k a over since r r' w w' p f steps → steps ≤ n → Misses k k' a a' over r' r''
+    → Holds {A = Bool} w' w'' p p' (Err fault) → RunsInto form input n old s r r'' w w'' p' f (Err fault)
+missed-runs form input n old s k k' a a' over since r r' r'' w w' w'' p p' f steps Reader i within m held = (
+  missed-cut form input n old s k k' a a' over since r r' r'' w w' p f steps i within m,
   moved-prints old over over i.looks [] w w' w'' p p' steps i.prints refl (λ h. h) held,
+  moved-meets old over over i.looks [] f steps i.met refl (λ h. h),
 )
-missed-runs form input n old s k k' a a' over since r r' r'' w w' w'' p p' steps Writer i within m held =
-    missed-cut form input n old s k k' a a' over since r r' r'' w w' p steps i within m
+missed-runs form input n old s k k' a a' over since r r' r'' w w' w'' p p' f steps Writer i within m held =
+    missed-cut form input n old s k k' a a' over since r r' r'' w w' p f steps i within m
 
-pub missed-run : (form : Form) (input : Input) (n : ℕ) (old s new : State) (k k' : Keyboard) (a a' : List ℕ) (over : Bool) (since : ℕ) (r r' r'' w w' w'' : Option (List ℕ)) (p p' : List ℕ) (steps : ℕ)
-    (fault : TerminalFault) → IsRunning form input old s k a over since r r' w w' p steps → steps ≤ n → Misses k k' a a' over r' r''
-    → Holds {A = Bool} w' w'' p p' (Err fault) → new ≡ s → RunsInto form input n old new r r'' w w'' p' (Err fault)
-missed-run form input n old s new k k' a a' over since r r' r'' w w' w'' p p' steps fault i within m held is =
-    subst (λ (x : State). RunsInto form input n old x r r'' w w'' p' (Err fault)) (sym is)
-    (missed-runs form input n old s k k' a a' over since r r' r'' w w' w'' p p' steps fault i within m held)
+pub missed-run : (form : Form) (input : Input) (n : ℕ) (old s new : State) (k k' : Keyboard) (a a' : List ℕ) (over : Bool) (since : ℕ) (r r' r'' w w' w'' : Option (List ℕ)) (p p' : List ℕ) (f : List Absence) (steps : ℕ)
+    (fault : TerminalFault) → IsRunning form input old s k a over since r r' w w' p f steps → steps ≤ n → Misses k k' a a' over r' r''
+    → Holds {A = Bool} w' w'' p p' (Err fault) → new ≡ s → RunsInto form input n old new r r'' w w'' p' f (Err fault)
+missed-run form input n old s new k k' a a' over since r r' r'' w w' w'' p p' f steps fault i within m held is =
+    subst (λ (x : State). RunsInto form input n old x r r'' w w'' p' f (Err fault)) (sym is)
+    (missed-runs form input n old s k k' a a' over since r r' r'' w w' w'' p p' f steps fault i within m held)
 
 -- ## Handing on what is on the paper at last
 
@@ -196,17 +209,17 @@ flushed-prints old looks over w w' w'' p p' steps prints held none more may =
     let printed = visible_characters (characters_of steps (new_terminal old (looks ++ more))) in
     passed w w'' p' printed (subst (λ cs. Passes w w'' [] p' cs) (append-nil printed) (passes-more w w' w'' [] p p' printed [] (prints more may) held)) none
 
-pub flushed-run : (form : Form) (input : Input) (n : ℕ) (old new : State) (r r' w w' w'' : Option (List ℕ)) (p p' : List ℕ) (ran : Result Ended TerminalFault)
-    → RunsInto form input n old new r r' w w' p ran → Passes w' w'' p p' [] → p' ≡ [] → RunsProgram form input n old new r r' w w'' ran
-flushed-run form input n old new r r' w w' w'' p p' (Ok ended) h held none =
-    (h.0, flushed-prints old h.0.looks h.0.is_over w w' w'' p p' ended.steps h.1 held none)
-flushed-run form input n old new r r' w w' w'' p p' (Err Reader) h held none =
-    (h.0, flushed-prints old h.0.looks h.0.is_over w w' w'' p p' h.0.steps h.1 held none)
-flushed-run form input n old new r r' w w' w'' p p' (Err Writer) h held none = h
+pub flushed-run : (form : Form) (input : Input) (n : ℕ) (old new : State) (r r' w w' w'' : Option (List ℕ)) (p p' : List ℕ) (f : List Absence) (ran : Result Ended TerminalFault)
+    → RunsInto form input n old new r r' w w' p f ran → Passes w' w'' p p' [] → p' ≡ [] → RunsProgram form input n old new r r' w w'' f ran
+flushed-run form input n old new r r' w w' w'' p p' f (Ok ended) h held none =
+    (h.0, flushed-prints old h.0.looks h.0.is_over w w' w'' p p' ended.steps h.1 held none, h.2)
+flushed-run form input n old new r r' w w' w'' p p' f (Err Reader) h held none =
+    (h.0, flushed-prints old h.0.looks h.0.is_over w w' w'' p p' h.0.steps h.1 held none, h.2)
+flushed-run form input n old new r r' w w' w'' p p' f (Err Writer) h held none = h
 
-pub cut-run : (form : Form) (input : Input) (n : ℕ) (old new : State) (r r' w w' : Option (List ℕ)) (p : List ℕ) (ran : Result Ended TerminalFault)
-    → RunsInto form input n old new r r' w w' p ran → IsCut form input n old new r r'
-cut-run form input n old new r r' w w' p (Ok ended) h = record {
+pub cut-run : (form : Form) (input : Input) (n : ℕ) (old new : State) (r r' w w' : Option (List ℕ)) (p : List ℕ) (f : List Absence) (ran : Result Ended TerminalFault)
+    → RunsInto form input n old new r r' w w' p f ran → IsCut form input n old new r r'
+cut-run form input n old new r r' w w' p f (Ok ended) h = record {
   looks = h.0.looks;
   is_over = h.0.is_over;
   steps = ended.steps;
@@ -214,5 +227,5 @@ cut-run form input n old new r r' w w' p (Ok ended) h = record {
   within = (h.0.run [] (λ _. refl)).within;
   goes_on = λ more may. (h.0.run more may).goes_on;
 }
-cut-run form input n old new r r' w w' p (Err Reader) h = h.0
-cut-run form input n old new r r' w w' p (Err Writer) h = h
+cut-run form input n old new r r' w w' p f (Err Reader) h = h.0
+cut-run form input n old new r r' w w' p f (Err Writer) h = h

@@ -8,12 +8,14 @@ use Rattle.cpu8.specs.declared.outcomes.Stepped.{Stepped}
 use Rattle.cpu8.specs.declared.outcomes.Stepped.TheVariants.{Stopped, Interrupted, Ran, Halted, Unassigned}
 use Rattle.terminal8.specs.Keys.{Keyboard, fresh, keys_from, keys_of}
 use Rattle.terminal8.specs.KeySteps.{keyboard_after}
+use Rattle.terminal8.specs.Absences.{absence_at, absences_of, with_absence_if}
 use Rattle.terminal8.specs.Asks.{asks_for_key}
-use Rattle.terminal8.specs.Terminal.{Terminal, new_terminal, after_look, after_step, next, later, last_did, characters_of, visible_characters, starves, has_halted, stop_of, GoesOn, Ends}
-use Rattle.terminal8.specs.Run.{MayFollow, FindsKey, FindsNone, HaveEnded, HasMadeSteps, IsRunOf, IsCut, WritesPrinted, RunsProgram}
+use Rattle.terminal8.specs.Terminal.{Terminal, new_terminal, after_attention, after_look, after_step, next, later, last_did, characters_of, visible_characters, starves, has_halted, stop_of, GoesOn, Ends}
+use Rattle.terminal8.specs.Run.{MayFollow, FindsKey, FindsNone, HaveEnded, HasMadeSteps, IsRunOf, IsCut, Meets, WritesPrinted, RunsProgram}
 use Rattle.terminal8.specs.KeyReads.{StrikesKeys, IsDry}
 use Rattle.terminal8.specs.Papers.{Passes, Holds}
 use Rattle.terminal8.specs.RunSteps.{IsNoneOnly, Attends, Misses, Prints, RunsInto}
+use Rattle.terminal8.specs.declared.absences.Absence.{Absence}
 use Rattle.terminal8.specs.declared.inputs.Input.{Input}
 use Rattle.terminal8.specs.declared.outcomes.TerminalFault.{TerminalFault}
 use Rattle.terminal8.specs.declared.outcomes.TerminalFault.TheVariants.{Reader, Writer}
@@ -21,6 +23,7 @@ use Rattle.terminal8.specs.declared.keyboards.Form.{Form}
 use Rattle.terminal8.specs.declared.outcomes.Ended.{Ended}
 use Rattle.terminal8.specs.declared.outcomes.TerminalEnd.{TerminalEnd}
 use Rattle.terminal8.specs.declared.outcomes.TerminalEnd.TheVariants as why
+use Rattle.terminal8.proofs.AbsenceLemmas.{absences-none, absences-next}
 use Rattle.terminal8.proofs.ByteLemmas.{consumes_more, consumes_none, passes-none, passes-more, passed}
 use Rattle.terminal8.proofs.KeyLemmas.{keys_more, after_more}
 use Rattle.terminal8.proofs.LookLemmas.{finds-none, finds-more, finds-found, starves-not}
@@ -48,12 +51,13 @@ pub record IsTaken (form : Form) (input : Input) (k : Keyboard) (ahead : List �
 
 -- All that: the run goes on after so many steps.
 pub record IsRunning (form : Form) (input : Input) (old new : State) (k : Keyboard) (ahead : List ℕ) (over : Bool) (since : ℕ)
-    (r r' w w' : Option (List ℕ)) (paper : List ℕ) (steps : ℕ) : Type 0 where
+    (r r' w w' : Option (List ℕ)) (paper : List ℕ) (absences : List Absence) (steps : ℕ) : Type 0 where
   pub looks : List (Option ℕ)
   pub is_at : IsAt old looks over steps new since
   pub runs : RunsOn old looks over steps
   pub taken : IsTaken form input k ahead over r r' looks
   pub prints : Prints old looks over w w' paper steps
+  pub met : Meets old looks over absences steps
 
 abbrev is-some : {T : Type 0} → Option T → Bool
 is-some None = false
@@ -78,7 +82,7 @@ none-split (l ∷ looks) (b ∷ before) after look is =
     ]
 
 pub begun : (form : Form) (input : Input) (s : State) (r w : Option (List ℕ)) → s.running ≡ true
-    → IsRunning form input s s (fresh form) [] false 0 r r w w [] 0
+    → IsRunning form input s s (fresh form) [] false 0 r r w w [] [] 0
 begun form input s r w running = record {
   looks = [];
   is_at = record {
@@ -95,6 +99,7 @@ begun form input s r w running = record {
     at_end = λ h. absurd (true≢false (sym h));
   };
   prints = λ more _. subst (λ cs. Passes w w [] [] (visible_characters cs)) (sym (printed-none (new_terminal s more))) (passes-none w []);
+  met = λ more _. sym (absences-none (new_terminal s more));
 }
 
 -- ## The operator attends
@@ -234,6 +239,20 @@ step-prints input old s s' k k' a a' over over' since since' r r' w w' w'' w''' 
     (passes-more w w' w''' [] p p'' (visible_characters (characters_of steps t)) (visible_characters (character_of did)) before
     (passes-more w' w'' w''' p p' p'' [] (visible_characters (character_of did)) none some))
 
+-- what is found after it
+pub step-meets : (input : Input) (old s s' : State) (k k' : Keyboard) (a a' : List ℕ) (over over' : Bool) (since since' : ℕ) (r r' : Option (List ℕ)) (looks : List (Option ℕ)) (steps : ℕ) (starved : Bool)
+    (f f' : List Absence) → IsAt old looks over steps s since → Meets old looks over f steps → (at : Attends input k k' a a' over over' s s' since since' r r' starved)
+    → f' ≡ with_absence_if (absence_at s') f → Meets old (looks ++ at.found) over' f' (steps + 1)
+step-meets input old s s' k k' a a' over over' since since' r r' looks steps starved f f' i met at is more may =
+    let may' = may-join over over' at.found more at.stays at.over may in
+    let t = new_terminal old (looks ++ (at.found ++ more)) in
+    is
+    ∙ ap (λ x. with_absence_if (absence_at s') x) (met (at.found ++ more) may')
+    ∙ ap (λ (x : Terminal). with_absence_if (absence_at x.machine) (absences_of steps t)) (sym (at.attends more may))
+    ∙ ap (λ x. with_absence_if (absence_at (after_attention x).machine) (absences_of steps t)) (sym (i.at (at.found ++ more) may'))
+    ∙ sym (absences-next steps t)
+    ∙ ap (λ x. absences_of (steps + 1) x) (sym (joined old looks at.found more))
+
 -- ## Whether it was an end
 
 none-some : (why : TerminalEnd) → Some why ≡ None → ⊥
@@ -286,11 +305,11 @@ limit-keys = refl
 
 -- after a step
 pub running-next : (form : Form) (input : Input) (old s s' new : State) (k k' : Keyboard) (a a' : List ℕ) (over over' : Bool) (since since' : ℕ)
-    (r r' r'' w w' w'' w''' : Option (List ℕ)) (p p' p'' : List ℕ) (steps : ℕ) (did : Stepped)
-    → IsRunning form input old s k a over since r r' w w' p steps → Attends input k k' a a' over over' s s' since since' r' r'' false
+    (r r' r'' w w' w'' w''' : Option (List ℕ)) (p p' p'' : List ℕ) (f f' : List Absence) (steps : ℕ) (did : Stepped)
+    → IsRunning form input old s k a over since r r' w w' p f steps → Attends input k k' a a' over over' s s' since since' r' r'' false
     → Passes w' w'' p p' [] → new ≡ (printing_step true s').0 → did ≡ (printing_step true s').1 → Passes w'' w''' p' p'' (visible_characters (character_of did)) → stop_of did ≡ None
-    → IsRunning form input old new k' a' over' (since' + 1) r r'' w w''' p'' (steps + 1)
-running-next form input old s s' new k k' a a' over over' since since' r r' r'' w w' w'' w''' p p' p'' steps did i at none new_is did_is some goes = record {
+    → f' ≡ with_absence_if (absence_at s') f → IsRunning form input old new k' a' over' (since' + 1) r r'' w w''' p'' f' (steps + 1)
+running-next form input old s s' new k k' a a' over over' since since' r r' r'' w w' w'' w''' p p' p'' f f' steps did i at none new_is did_is some goes found = record {
   looks = i.looks ++ at.found;
   is_at = step-at input old s s' new k k' a a' over over' since since' r' r'' i.looks steps false i.is_at i.runs at refl new_is;
   runs = λ more may.
@@ -298,6 +317,7 @@ running-next form input old s s' new k k' a a' over over' since since' r r' r'' 
       ∙ goes-by did goes;
   taken = taken-next form input k k' a a' over over' s s' since since' r r' r'' i.looks false i.taken at;
   prints = step-prints input old s s' k k' a a' over over' since since' r' r'' w w' w'' w''' p p' p'' i.looks steps false did i.is_at i.prints at none did_is some;
+  met = step-meets input old s s' k k' a a' over over' since since' r' r'' i.looks steps false f f' i.is_at i.met at found;
 }
 
 -- after a step in which the program asks for no key and that prints nothing
@@ -331,16 +351,28 @@ quiet-prints old s looks over steps since w w' p i asks ran prints more may =
     ∙ sym (printed-next steps t))
     (prints more may)
 
-quiet-next : (form : Form) (input : Input) (old s : State) (k : Keyboard) (a : List ℕ) (over : Bool) (since : ℕ) (r r' w w' : Option (List ℕ)) (p : List ℕ) (steps : ℕ)
-    → IsRunning form input old s k a over since r r' w w' p steps → asks_for_key since s ≡ false → (printing_step true s).1 ≡ Ran None
-    → IsRunning form input old (printing_step true s).0 k a over (since + 1) r r' w w' p (steps + 1)
-quiet-next form input old s k a over since r r' w w' p steps i asks ran = record {
+quiet-meets : (old s : State) (looks : List (Option ℕ)) (over : Bool) (steps since : ℕ) (f : List Absence) → IsAt old looks over steps s since
+    → asks_for_key since s ≡ false → absence_at s ≡ None → Meets old looks over f steps → Meets old looks over f (steps + 1)
+quiet-meets old s looks over steps since f i asks there met more may =
+    let t = new_terminal old (looks ++ more) in
+    met more may
+    ∙ ap (λ (x : Option Absence). with_absence_if x (absences_of steps t)) (sym there)
+    ∙ ap (λ (b : Bool). let x : Terminal = if b then after_look s more else record { machine = s; looks = more; since = since } in
+    with_absence_if (absence_at x.machine) (absences_of steps t)) (sym asks)
+    ∙ ap (λ x. with_absence_if (absence_at (after_attention x).machine) (absences_of steps t)) (sym (i.at more may))
+    ∙ sym (absences-next steps t)
+
+quiet-next : (form : Form) (input : Input) (old s : State) (k : Keyboard) (a : List ℕ) (over : Bool) (since : ℕ) (r r' w w' : Option (List ℕ)) (p : List ℕ) (f : List Absence) (steps : ℕ)
+    → IsRunning form input old s k a over since r r' w w' p f steps → asks_for_key since s ≡ false → (printing_step true s).1 ≡ Ran None → absence_at s ≡ None
+    → IsRunning form input old (printing_step true s).0 k a over (since + 1) r r' w w' p f (steps + 1)
+quiet-next form input old s k a over since r r' w w' p f steps i asks ran there = record {
   looks = i.looks;
   is_at = quiet-at old s i.looks over steps since i.is_at i.runs asks;
   runs = λ more may.
       ap (λ d. runs_on d) (did-next steps (new_terminal old (i.looks ++ more)) ∙ quiet-did old s i.looks over steps since i.is_at asks more may ∙ ran);
   taken = i.taken;
   prints = quiet-prints old s i.looks over steps since w w' p i.is_at asks ran i.prints;
+  met = quiet-meets old s i.looks over steps since f i.is_at asks there i.met;
 }
 
 after-zero : (s : State) → after true 0 s ≡ s
@@ -352,32 +384,35 @@ unfolding after
 after-suc k s = refl
 
 -- after several such steps
-quiet-more : (form : Form) (input : Input) (old s : State) (k : Keyboard) (a : List ℕ) (over : Bool) (since : ℕ) (r r' w w' : Option (List ℕ)) (p : List ℕ) (steps count : ℕ)
-    → IsRunning form input old s k a over since r r' w w' p steps
+quiet-more : (form : Form) (input : Input) (old s : State) (k : Keyboard) (a : List ℕ) (over : Bool) (since : ℕ) (r r' w w' : Option (List ℕ)) (p : List ℕ) (f : List Absence) (steps count : ℕ)
+    → IsRunning form input old s k a over since r r' w w' p f steps
     → ((m : ℕ) → m < count → answer true m s ≡ Ran None)
     → ((m : ℕ) → m < count → asks_for_key (since + m) (after true m s) ≡ false)
-    → IsRunning form input old (after true count s) k a over (since + count) r r' w w' p (steps + count)
-quiet-more form input old s k a over since r r' w w' p steps zero i answers asks =
+    → ((m : ℕ) → m < count → absence_at (after true m s) ≡ None)
+    → IsRunning form input old (after true count s) k a over (since + count) r r' w w' p f (steps + count)
+quiet-more form input old s k a over since r r' w w' p f steps zero i answers asks there =
     let e : steps ≡ steps + 0 = omega arith in
-    let f : since ≡ since + 0 = omega arith in
-    subst (λ x. IsRunning form input old x k a over (since + 0) r r' w w' p (steps + 0)) (sym (after-zero s))
-    (subst (λ (m : ℕ). IsRunning form input old s k a over m r r' w w' p (steps + 0)) f
-    (subst (λ (m : ℕ). IsRunning form input old s k a over since r r' w w' p m) e i))
-quiet-more form input old s k a over since r r' w w' p steps (suc count) i answers asks =
+    let g : since ≡ since + 0 = omega arith in
+    subst (λ x. IsRunning form input old x k a over (since + 0) r r' w w' p f (steps + 0)) (sym (after-zero s))
+    (subst (λ (m : ℕ). IsRunning form input old s k a over m r r' w w' p f (steps + 0)) g
+    (subst (λ (m : ℕ). IsRunning form input old s k a over since r r' w w' p f m) e i))
+quiet-more form input old s k a over since r r' w w' p f steps (suc count) i answers asks there =
     let e : steps + count + 1 ≡ steps + suc count = omega arith in
-    let f : since + count + 1 ≡ since + suc count = omega arith in
-    let before = quiet-more form input old s k a over since r r' w w' p steps count i (λ m below. answers m (omega (arith, below))) (λ m below. asks m (omega (arith, below))) in
-    let after_it : IsRunning form input old (printing_step true (after true count s)).0 k a over (since + count + 1) r r' w w' p (steps + count + 1) =
-    quiet-next form input old (after true count s) k a over (since + count) r r' w w' p (steps + count) before (asks count (omega arith)) (answers count (omega arith)) in
-    subst (λ x. IsRunning form input old x k a over (since + suc count) r r' w w' p (steps + suc count)) (after-suc count s)
-    (subst (λ (m : ℕ). IsRunning form input old (printing_step true (after true count s)).0 k a over m r r' w w' p (steps + suc count)) f
-    (subst (λ (m : ℕ). IsRunning form input old (printing_step true (after true count s)).0 k a over (since + count + 1) r r' w w' p m) e after_it))
+    let g : since + count + 1 ≡ since + suc count = omega arith in
+    let before = quiet-more form input old s k a over since r r' w w' p f steps count i (λ m below. answers m (omega (arith, below))) (λ m below. asks m (omega (arith, below)))
+    (λ m below. there m (omega (arith, below))) in
+    let after_it : IsRunning form input old (printing_step true (after true count s)).0 k a over (since + count + 1) r r' w w' p f (steps + count + 1) =
+    quiet-next form input old (after true count s) k a over (since + count) r r' w w' p f (steps + count) before (asks count (omega arith)) (answers count (omega arith)) (there count (omega arith)) in
+    subst (λ x. IsRunning form input old x k a over (since + suc count) r r' w w' p f (steps + suc count)) (after-suc count s)
+    (subst (λ (m : ℕ). IsRunning form input old (printing_step true (after true count s)).0 k a over m r r' w w' p f (steps + suc count)) g
+    (subst (λ (m : ℕ). IsRunning form input old (printing_step true (after true count s)).0 k a over (since + count + 1) r r' w w' p f m) e after_it))
 
-pub running-more : (form : Form) (input : Input) (old s new : State) (k : Keyboard) (a : List ℕ) (over : Bool) (since : ℕ) (r r' w w' : Option (List ℕ)) (p : List ℕ) (steps count : ℕ)
-    → IsRunning form input old s k a over since r r' w w' p steps → new ≡ after true count s
+pub running-more : (form : Form) (input : Input) (old s new : State) (k : Keyboard) (a : List ℕ) (over : Bool) (since : ℕ) (r r' w w' : Option (List ℕ)) (p : List ℕ) (f : List Absence) (steps count : ℕ)
+    → IsRunning form input old s k a over since r r' w w' p f steps → new ≡ after true count s
     → ((m : ℕ) → m < count → answer true m s ≡ Ran None)
     → ((m : ℕ) → m < count → asks_for_key (since + m) (after true m s) ≡ false)
-    → IsRunning form input old new k a over (since + count) r r' w w' p (steps + count)
-running-more form input old s new k a over since r r' w w' p steps count i is answers asks =
-    subst (λ x. IsRunning form input old x k a over (since + count) r r' w w' p (steps + count)) (sym is)
-    (quiet-more form input old s k a over since r r' w w' p steps count i answers asks)
+    → ((m : ℕ) → m < count → absence_at (after true m s) ≡ None)
+    → IsRunning form input old new k a over (since + count) r r' w w' p f (steps + count)
+running-more form input old s new k a over since r r' w w' p f steps count i is answers asks there =
+    subst (λ x. IsRunning form input old x k a over (since + count) r r' w w' p f (steps + count)) (sym is)
+    (quiet-more form input old s k a over since r r' w w' p f steps count i answers asks there)

@@ -6,6 +6,8 @@ use Rattle.cpu8.specs.Reference.{after_fetch}
 use Rattle.terminal8.specs.Asks.{waits_for_key}
 use Rattle.terminal8.specs.Keys.{keys_of}
 use Rattle.terminal8.specs.Terminal.{Terminal, new_terminal, later, characters_of, visible_characters, IsRun}
+use Rattle.terminal8.specs.Absences.{absences_of}
+use Rattle.terminal8.specs.declared.absences.Absence.{Absence}
 use Rattle.terminal8.specs.declared.keyboards.Form.{Form}
 use Rattle.terminal8.specs.declared.outcomes.Ended.{Ended}
 
@@ -23,11 +25,12 @@ terminal_with_keys s keys = new_terminal s (map (λ key. Some key) keys)
 abbrev pub terminal_of : Form → State → List ℕ → Terminal
 terminal_of form s bytes = terminal_with_keys s (keys_of form bytes)
 
--- A run of at most n steps of a terminal, the machine that it leaves, and what a writer got.
-pub record IsWholeRun (t : Terminal) (n : ℕ) (new : State) (writer writer' : Option (List ℕ)) (ended : Ended) : Type 0 where
+-- A run of at most n steps of a terminal, the machine that it leaves, what a writer got, and the IOTs of absent devices that it did.
+pub record IsWholeRun (t : Terminal) (n : ℕ) (new : State) (writer writer' : Option (List ℕ)) (absences : List Absence) (ended : Ended) : Type 0 where
   pub run : IsRun t n ended.steps ended.why
   pub machine : (later ended.steps t).machine ≡ new
   pub printed : Appends writer writer' (visible_characters (characters_of ended.steps t))
+  pub met : absences ≡ absences_of ended.steps t
 
 -- ## Reading a key
 

@@ -3,6 +3,7 @@ pub mod KeySteps
 pub mod Asks
 pub mod Terminal
 pub mod Fetches
+pub mod Absences
 pub mod Run
 pub mod KeyReads
 pub mod Papers

@@ -4,6 +4,8 @@ use Rattle.std.specs.Io.KnownBytes.{Consumes, Appends, IsAtEnd}
 use Rattle.cpu8.specs.State.{State}
 use Rattle.terminal8.specs.Keys.{keys_of}
 use Rattle.terminal8.specs.Terminal.{new_terminal, later, characters_of, visible_characters, GoesOn, IsRun}
+use Rattle.terminal8.specs.Absences.{absences_of}
+use Rattle.terminal8.specs.declared.absences.Absence.{Absence}
 use Rattle.terminal8.specs.declared.inputs.Input.{Input}
 use Rattle.terminal8.specs.declared.inputs.Input.TheVariants.{Ending, Live}
 use Rattle.terminal8.specs.declared.keyboards.Form.{Form}
@@ -76,10 +78,17 @@ abbrev pub WritesPrinted : State → List (Option ℕ) → Bool → Option (List
 WritesPrinted s looks is_over writer writer' steps =
     (more : List (Option ℕ)) → MayFollow is_over more → Appends writer writer' (visible_characters (characters_of steps (new_terminal s (looks ++ more))))
 
--- What a run of at most n steps answers. Where the reader fails the writer got what was printed so far.
-abbrev pub RunsProgram : Form → Input → ℕ → State → State → Option (List ℕ) → Option (List ℕ) → Option (List ℕ) → Option (List ℕ) → Result Ended TerminalFault → Type 0
-RunsProgram form input n old new reader reader' writer writer' (Ok ended) =
+-- these are the IOTs of absent devices that so many steps did
+abbrev pub Meets : State → List (Option ℕ) → Bool → List Absence → ℕ → Type 0
+Meets s looks is_over absences steps =
+    (more : List (Option ℕ)) → MayFollow is_over more → absences ≡ absences_of steps (new_terminal s (looks ++ more))
+
+-- What a run of at most n steps answers, and the IOTs of absent devices that it did. Where the reader fails the writer got what was printed so far.
+abbrev pub RunsProgram : Form → Input → ℕ → State → State → Option (List ℕ) → Option (List ℕ) → Option (List ℕ) → Option (List ℕ) → List Absence → Result Ended TerminalFault → Type 0
+RunsProgram form input n old new reader reader' writer writer' absences (Ok ended) =
     (ran : IsRunOf form input n old new reader reader' ended) × WritesPrinted old ran.looks ran.is_over writer writer' ended.steps
-RunsProgram form input n old new reader reader' writer writer' (Err Reader) =
+    × Meets old ran.looks ran.is_over absences ended.steps
+RunsProgram form input n old new reader reader' writer writer' absences (Err Reader) =
     (cut : IsCut form input n old new reader reader') × WritesPrinted old cut.looks cut.is_over writer writer' cut.steps
-RunsProgram form input n old new reader reader' writer writer' (Err Writer) = IsCut form input n old new reader reader'
+    × Meets old cut.looks cut.is_over absences cut.steps
+RunsProgram form input n old new reader reader' writer writer' absences (Err Writer) = IsCut form input n old new reader reader'

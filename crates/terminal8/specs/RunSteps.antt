@@ -6,7 +6,8 @@ use Rattle.terminal8.specs.Keys.{Keyboard}
 use Rattle.terminal8.specs.KeyReads.{Strikes, StrikesKeys, IsDry}
 use Rattle.terminal8.specs.Papers.{Passes}
 use Rattle.terminal8.specs.Terminal.{new_terminal, after_look, after_attention, is_none_left, characters_of, visible_characters, starves}
-use Rattle.terminal8.specs.Run.{MayFollow, FindsKey, HaveEnded, IsCut, IsRunOf}
+use Rattle.terminal8.specs.Run.{MayFollow, FindsKey, HaveEnded, IsCut, IsRunOf, Meets}
+use Rattle.terminal8.specs.declared.absences.Absence.{Absence}
 use Rattle.terminal8.specs.declared.inputs.Input.{Input}
 use Rattle.terminal8.specs.declared.inputs.Input.TheVariants.{Ending, Live}
 use Rattle.terminal8.specs.declared.keyboards.Form.{Form}
@@ -88,9 +89,11 @@ Prints s looks is_over writer writer' paper steps =
     (more : List (Option ℕ)) → MayFollow is_over more → Passes writer writer' [] paper (visible_characters (characters_of steps (new_terminal s (looks ++ more))))
 
 -- the answer of a run whose last printed characters may still be on the paper
-abbrev pub RunsInto : Form → Input → ℕ → State → State → Option (List ℕ) → Option (List ℕ) → Option (List ℕ) → Option (List ℕ) → List ℕ → Result Ended TerminalFault → Type 0
-RunsInto form input n old new reader reader' writer writer' paper (Ok ended) =
+abbrev pub RunsInto : Form → Input → ℕ → State → State → Option (List ℕ) → Option (List ℕ) → Option (List ℕ) → Option (List ℕ) → List ℕ → List Absence → Result Ended TerminalFault → Type 0
+RunsInto form input n old new reader reader' writer writer' paper absences (Ok ended) =
     (ran : IsRunOf form input n old new reader reader' ended) × Prints old ran.looks ran.is_over writer writer' paper ended.steps
-RunsInto form input n old new reader reader' writer writer' paper (Err Reader) =
+    × Meets old ran.looks ran.is_over absences ended.steps
+RunsInto form input n old new reader reader' writer writer' paper absences (Err Reader) =
     (cut : IsCut form input n old new reader reader') × Prints old cut.looks cut.is_over writer writer' paper cut.steps
-RunsInto form input n old new reader reader' writer writer' paper (Err Writer) = IsCut form input n old new reader reader'
+    × Meets old cut.looks cut.is_over absences cut.steps
+RunsInto form input n old new reader reader' writer writer' paper absences (Err Writer) = IsCut form input n old new reader reader'

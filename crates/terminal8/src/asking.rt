@@ -1,10 +1,13 @@
 //! When a program asks for a key, and when it does nothing but wait for one.
 
 ghost use Rattle.std.specs.Prelude.{◌≡◌, ℕ, ◌+◌, ◌<◌, ◌≤◌, ◌&&◌, nat_le, false};
+ghost use Rattle.terminal8.specs.Absences.{absence_at};
 ghost use Rattle.terminal8.specs.Asks.{is_ksf, is_undisturbed, tests_keyboard, asks_for_key, jumps_back, is_at_rest, waits_for_key};
 ghost use Rattle.cpu8.specs.Step.{next_word};
 
+use crate::absences::Absence;
 use cpu8::Machine;
+use cpu8::decoding::is_absent;
 use word12::{Cell, PAGE, Word};
 
 /// Whether the program asks for a key, so many steps after it last asked. It does where no key is unread, and one of these
@@ -41,6 +44,22 @@ pub fn waits_for_key(machine: &Machine) -> bool
         && next_word(machine).get() == KSF
         && jumps_back(machine)
         && is_at_rest(machine)
+}
+
+/// What the next step does, if it is an IOT of a device that isn't there, and no interrupt.
+#[inline(always)]
+pub(crate) fn absence_at(machine: &Machine) -> Option<Absence>
+    ensures { result ≡ absence_at machine.now }
+{
+    let word = next_word(machine);
+    if is_absent(word) && is_undisturbed(machine) {
+        Some(Absence {
+            word,
+            cell: machine.next_cell(),
+        })
+    } else {
+        None
+    }
 }
 
 /// Whether the next step asks whether a key was struck.

@@ -8,6 +8,7 @@ ghost use Rattle.terminal8.specs.Terminal as terminal;
 ghost use Rattle.terminal8.specs.Terminal.{Terminal, GoesOn, IsRun, later};
 ghost use Rattle.terminal8.specs.Laws.{IsInLoop, IsWholeRun, ReadsNext, key_read, terminal_of, waiting_for};
 ghost use Rattle.terminal8.specs.Run.{RunsProgram};
+ghost use Rattle.terminal8.specs.declared.absences.Absence.{Absence};
 ghost use Rattle.terminal8.specs.declared.inputs.Input.TheVariants.{Ending};
 ghost use Rattle.terminal8.specs.declared.keyboards.Form.{Form};
 ghost use Rattle.terminal8.specs.declared.outcomes.Ended.{Ended};
@@ -53,7 +54,7 @@ pub fn one_end()
 /// not matter how far the reader was read.
 pub fn known_bytes()
     ensures { (form : Form) (n : ℕ) (old new : State) (bytes left : List ℕ)
-        (writer written : Option (List ℕ)) (ended : Ended)
-        → RunsProgram form Ending n old new (Some bytes) (Some left) writer written (Ok ended)
-        → IsWholeRun (terminal_of form old bytes) n new writer written ended }
+        (writer written : Option (List ℕ)) (absences : List Absence) (ended : Ended)
+        → RunsProgram form Ending n old new (Some bytes) (Some left) writer written absences (Ok ended)
+        → IsWholeRun (terminal_of form old bytes) n new writer written absences ended }
 {}

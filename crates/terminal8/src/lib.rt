@@ -4,6 +4,7 @@
 //! Nothing here takes memory but lists of keys.
 #![tactic(auto)]
 
+mod absences;
 mod asking;
 mod inputs;
 mod keyboards;
@@ -16,6 +17,7 @@ mod runs;
 mod terminals;
 mod writing;
 
+pub use absences::{Absence, Absences};
 pub use asking::{asks_for_key, waits_for_key};
 pub use inputs::Input;
 pub use keyboards::{Form, Keyboard, keys_of};

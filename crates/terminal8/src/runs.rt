@@ -3,6 +3,7 @@
 ghost use Rattle.std.specs.Prelude.{◌≡◌, ℕ, ◌+◌, ◌<◌, ◌≤◌, [], true, false, None, IfOk, OnOk, IfErr};
 ghost use Rattle.cpu8.specs.Go.{after, answer, printing_step, character_of};
 ghost use Rattle.cpu8.specs.declared.outcomes.Stepped.TheVariants.{Ran};
+ghost use Rattle.terminal8.specs.Absences.{absence_at};
 ghost use Rattle.terminal8.specs.Asks.{asks_for_key};
 ghost use Rattle.terminal8.specs.Terminal.{visible_characters, stop_of};
 ghost use Rattle.terminal8.specs.Run.{RunsProgram};
@@ -10,7 +11,8 @@ ghost use Rattle.terminal8.specs.Papers.{Passes};
 ghost use Rattle.terminal8.specs.RunSteps.{RunsInto};
 ghost use Rattle.terminal8.specs.declared.outcomes.TerminalFault.TheVariants as fault;
 
-use crate::asking::steps_before_look;
+use crate::absences::Absences;
+use crate::asking::{absence_at, steps_before_look};
 use crate::inputs::Input;
 use crate::keyboards::Form;
 use crate::operators::Operator;
@@ -27,23 +29,28 @@ use cpu8::{Machine, Stepped};
 ///
 /// It ends at a HLT, or where the machine stands stopped, or at an unassigned word. It ends where the keys have ended and the
 /// machine waits for one for ever, or after n steps. Live keys never end: a look that finds none is made again where the
-/// program next asks for one. The answer is `Reader` or `Writer` only where one of these has failed. It takes no memory.
+/// program next asks for one. The answer is `Reader` or `Writer` only where one of these has failed. `absences` gets
+/// the IOTs of devices that aren't there, in place of what it had. It takes no memory.
 pub fn run<R: ByteReader, O: Output>(
     machine: &mut Machine,
     n: u64,
     form: Form,
     input: Input,
+    absences: &mut Absences,
     reader: &mut R,
     writer: &mut O,
 ) -> Result<Ended, TerminalFault>
     ensures runs { RunsProgram form input n machine.old machine.new
         (R.remaining reader.old) (R.remaining reader.new)
-        (O.contents writer.old) (O.contents writer.new) result }
+        (O.contents writer.old) (O.contents writer.new) absences.new result }
     ensures cause { IfErr result (λ e. e ≡ fault.Writer → O.has_failed writer.new) }
     ensures failed { IfErr result (λ e. e ≡ fault.Reader → R.has_failed reader.new) }
 {
     let mut paper = Paper::new();
-    let ran = run_steps(machine, n, form, input, &mut paper, reader, writer);
+    *absences = Absences::new();
+    let ran = run_steps(
+        machine, n, form, input, &mut paper, absences, reader, writer,
+    );
     match ran {
         Err(TerminalFault::Writer) => Err(TerminalFault::Writer),
         _ => {
@@ -61,12 +68,14 @@ fn run_steps<R: ByteReader, O: Output>(
     form: Form,
     input: Input,
     paper: &mut Paper,
+    absences: &mut Absences,
     reader: &mut R,
     writer: &mut O,
 ) -> Result<Ended, TerminalFault>
-    requires { paper.old ≡ [] }
+    requires paper { paper.old ≡ [] }
+    requires absences { absences.old ≡ [] }
     ensures runs { RunsInto form input n machine.old machine.new (R.remaining reader.old) (R.remaining reader.new)
-        (O.contents writer.old) (O.contents writer.new) paper.new result }
+        (O.contents writer.old) (O.contents writer.new) paper.new absences.new result }
     ensures cause { IfErr result (λ e. e ≡ fault.Writer → O.has_failed writer.new) }
     ensures failed { IfErr result (λ e. e ≡ fault.Reader → R.has_failed reader.new) }
 {
@@ -85,7 +94,9 @@ fn run_steps<R: ByteReader, O: Output>(
                 why: TerminalEnd::Keys,
             });
         }
+        let absence = absence_at(machine);
         let did = step(machine, paper, writer)?;
+        absences.add(absence);
         operator.since += 1;
         made += 1;
         if let Some(why) = stop_of(did) {
@@ -132,14 +143,15 @@ fn take_turn(machine: &mut Machine) -> Stepped
     machine.step()
 }
 
-/// Makes up to n steps that print nothing, go on, and in which the program asks for no key. So many steps were made since it
-/// last asked for one. The answer is how many steps are made.
+/// Makes up to n steps that print nothing, go on, and in which the program asks for no key and for no device that isn't there. So
+/// many steps were made since it last asked for one. The answer is how many steps are made.
 #[inline(always)]
 fn go_on(machine: &mut Machine, n: u64, since: u64) -> u64
     ensures within { result ≤ n }
     ensures state { machine.new ≡ after true result machine.old }
     ensures answers { (m : ℕ) → m < result → answer true m machine.old ≡ Ran None }
     ensures asks { (m : ℕ) → m < result → asks_for_key (since + m) (after true m machine.old) ≡ false }
+    ensures absences { (m : ℕ) → m < result → absence_at (after true m machine.old) ≡ None }
 {
     let most = steps_before_look(since, machine, n);
     machine.run_unasked(most) as u64

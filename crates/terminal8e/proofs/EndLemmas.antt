@@ -9,6 +9,7 @@ use Rattle.terminal8.specs.Keys.{fresh, keys_from, keys_of}
 use Rattle.terminal8.specs.KeySteps.{keyboard_after}
 use Rattle.terminal8.specs.Terminal.{visible_characters, has_halted}
 use Rattle.terminal8.specs.Run.{MayFollow}
+use Rattle.terminal8.specs.declared.absences.Absence.{Absence}
 use Rattle.terminal8.specs.declared.inputs.Input.TheVariants.{Ending}
 use Rattle.terminal8.specs.declared.keyboards.Form.{Form}
 use Rattle.terminal8.specs.declared.outcomes.Ended.{Ended}
@@ -16,15 +17,15 @@ use Rattle.terminal8.specs.declared.outcomes.TerminalEnd.{TerminalEnd}
 use Rattle.terminal8.specs.declared.outcomes.TerminalEnd.TheVariants as why
 use Rattle.terminal8.proofs.KeyLemmas.{keys_more}
 use Rattle.terminal8e.specs.Acts.{Acts}
-use Rattle.terminal8e.specs.AnyTerminal.{Terminal, new_terminal, later, last_did, characters_of, GoesOn, Ends, IsRun}
+use Rattle.terminal8e.specs.AnyTerminal.{Terminal, new_terminal, later, last_did, characters_of, absences_of, GoesOn, Ends, IsRun}
 use Rattle.terminal8e.specs.AnyRun.{RunsProgram}
 use Rattle.terminal8e.specs.AnyLaws.{terminal_of, IsWholeRun}
 
 -- ## Known bytes
 
-pub whole-run : {S : Type 0} (acts : Acts S) (form : Form) (n : ℕ) (old new : S) (bytes left : List ℕ) (w w' : Option (List ℕ)) (ended : Ended)
-    → RunsProgram acts form Ending n old new (Some bytes) (Some left) w w' (Ok ended) → IsWholeRun acts (terminal_of form old bytes) n new w w' ended
-whole-run {S} acts form n old new bytes left w w' ended h =
+pub whole-run : {S : Type 0} (acts : Acts S) (form : Form) (n : ℕ) (old new : S) (bytes left : List ℕ) (w w' : Option (List ℕ)) (f : List Absence) (ended : Ended)
+    → RunsProgram acts form Ending n old new (Some bytes) (Some left) w w' f (Ok ended) → IsWholeRun acts (terminal_of form old bytes) n new w w' f ended
+whole-run {S} acts form n old new bytes left w w' f ended h =
     let m = h.0.made in
     let k = keyboard_after (fresh form) m.bytes in
     let rest : List ℕ = m.ahead ++ left in
@@ -41,6 +42,7 @@ whole-run {S} acts form n old new bytes left w w' ended h =
       run = subst (λ t. IsRun acts t n ended.steps ended.why) (sym same) (h.0.run more may);
       machine = ap (λ t. (later acts ended.steps t).machine) same ∙ m.machine more may;
       printed = subst (λ t. Appends w w' (visible_characters (characters_of acts ended.steps t))) (sym same) (h.1 more may);
+      met = h.2 more may ∙ ap (λ t. absences_of acts ended.steps t) (sym same);
     }
 
 -- ## One end

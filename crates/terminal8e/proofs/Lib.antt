@@ -1,5 +1,6 @@
 pub mod WaitLemmas
 pub mod TerminalLemmas
+pub mod AbsenceLemmas
 pub mod LookLemmas
 pub mod RunLemmas
 pub mod PartLemmas

@@ -3,10 +3,12 @@ use Rattle.std.proofs.Common.{◌≡◌, ℕ, zero, suc, ◌+◌, ◌<◌, Bool,
 use Rattle.cpu8e.specs.State.{State8e}
 use Rattle.cpu8e.specs.Runs.{printing_step, after_keys, after}
 use Rattle.cpu8e.specs.Unasked.{IsUnasked, AreUnasked, jumps_back}
+use Rattle.terminal8e.specs.Absences.{absence_at}
 use Rattle.terminal8e.specs.Asks.{asks_for_key, is_at_ksf, is_undisturbed}
 use Rattle.terminal8e.specs.AnyTerminal as any
 use Rattle.terminal8e.specs.AnyTerminal.{GoesUnasked}
 use Rattle.terminal8e.specs.Terminal.{terminal_acts}
+use Rattle.terminal8e.proofs.AbsenceLemmas.{there-not}
 
 -- where the program neither waits nor, if looks count, looks, and looks count before the interrupts do
 none-asked : (unread ksf rest back looks late on : Bool) → ((not unread && ksf) && (looks || back)) ≡ false → (late && (not looks || on)) ≡ false
@@ -45,4 +47,5 @@ goes-unasked s new since count state unasked sooner = record {
   state = state ∙ sym (same-after count s);
   answers = λ m below. ap (λ x. (printing_step x).1) (same-after m s) ∙ (unasked m below).answer;
   asks = λ m below. ap (λ x. asks_for_key (since + m) x) (same-after m s) ∙ asks-not s since m (unasked m below) (sooner m below);
+  absences = λ m below. ap (λ x. absence_at x) (same-after m s) ∙ there-not (nat_le 30000 since) s m (unasked m below);
 }

@@ -7,8 +7,10 @@ use Rattle.cpu8.specs.declared.outcomes.Stepped.TheVariants.{Stopped, Interrupte
 use Rattle.terminal8.specs.Keys.{Keyboard, fresh}
 use Rattle.terminal8.specs.Terminal.{visible_characters, has_halted, is_none_left, stop_of}
 use Rattle.terminal8.specs.Run.{MayFollow}
+use Rattle.terminal8.specs.Absences.{with_absence_if}
 use Rattle.terminal8.specs.Papers.{Passes, Holds}
 use Rattle.terminal8.specs.RunSteps.{Misses}
+use Rattle.terminal8.specs.declared.absences.Absence.{Absence}
 use Rattle.terminal8.specs.declared.inputs.Input.{Input}
 use Rattle.terminal8.specs.declared.outcomes.TerminalFault.{TerminalFault}
 use Rattle.terminal8.specs.declared.outcomes.TerminalFault.TheVariants.{Reader, Writer}
@@ -21,10 +23,10 @@ use Rattle.terminal8.proofs.LookLemmas.{finds-none}
 use Rattle.terminal8.proofs.RunLemmas.{IsTaken, halt-keys, limit-keys, may-join, no-keys, none-empty, stop-keys, taken-more}
 use Rattle.terminal8.proofs.TerminalLemmas.{shown-more}
 use Rattle.terminal8e.specs.Acts.{Acts}
-use Rattle.terminal8e.specs.AnyTerminal.{Terminal, new_terminal, after_look, after_step, next, later, last_did, characters_of, after, GoesUnasked, starves, GoesOn, Ends}
-use Rattle.terminal8e.specs.AnyRun.{HasMadeSteps, IsRunOf, IsCut, Prints, WritesPrinted, RunsProgram}
+use Rattle.terminal8e.specs.AnyTerminal.{Terminal, new_terminal, after_attention, after_look, after_step, next, later, last_did, characters_of, absences_of, after, GoesUnasked, starves, GoesOn, Ends}
+use Rattle.terminal8e.specs.AnyRun.{HasMadeSteps, IsRunOf, IsCut, Meets, Prints, WritesPrinted, RunsProgram}
 use Rattle.terminal8e.specs.AnySteps.{Attends, RunsInto}
-use Rattle.terminal8e.proofs.TerminalLemmas.{later-none, later-next, did-none, did-next, printed-none, printed-next}
+use Rattle.terminal8e.proofs.TerminalLemmas.{absences-none, absences-next, later-none, later-next, did-none, did-next, printed-none, printed-next}
 
 -- ## How far a run has come
 
@@ -39,19 +41,20 @@ RunsOn {S} acts old looks over steps = (more : List (Option ℕ)) → MayFollow 
 
 -- All that: the run goes on after so many steps.
 pub record IsRunning {S : Type 0} (acts : Acts S) (form : Form) (input : Input) (old new : S) (k : Keyboard) (ahead : List ℕ) (over : Bool) (since : ℕ)
-    (r r' w w' : Option (List ℕ)) (paper : List ℕ) (steps : ℕ) : Type 0 where
+    (r r' w w' : Option (List ℕ)) (paper : List ℕ) (absences : List Absence) (steps : ℕ) : Type 0 where
   pub looks : List (Option ℕ)
   pub is_at : IsAt acts old looks over steps new since
   pub runs : RunsOn acts old looks over steps
   pub taken : IsTaken form input k ahead over r r' looks
   pub prints : Prints acts old looks over w w' paper steps
+  pub met : Meets acts old looks over absences steps
 
 abbrev is-some : {T : Type 0} → Option T → Bool
 is-some None = false
 is-some (Some x) = true
 
 pub begun : {S : Type 0} (acts : Acts S) (form : Form) (input : Input) (s : S) (r w : Option (List ℕ)) → acts.is_running s ≡ true
-    → IsRunning acts form input s s (fresh form) [] false 0 r r w w [] 0
+    → IsRunning acts form input s s (fresh form) [] false 0 r r w w [] [] 0
 begun {S} acts form input s r w running = record {
   looks = [];
   is_at = record {
@@ -68,6 +71,7 @@ begun {S} acts form input s r w running = record {
     at_end = λ h. absurd (true≢false (sym h));
   };
   prints = λ more _. subst (λ cs. Passes w w [] [] (visible_characters cs)) (sym (printed-none acts (new_terminal s more))) (passes-none w []);
+  met = λ more _. sym (absences-none acts (new_terminal s more));
 }
 
 -- ## The operator attends
@@ -140,6 +144,20 @@ step-prints {S} acts input old s s' k k' a a' over over' since since' r r' w w' 
     (passes-more w w' w''' [] p p'' (visible_characters (characters_of acts steps t)) (visible_characters (character_of did)) before
     (passes-more w' w'' w''' p p' p'' [] (visible_characters (character_of did)) none some))
 
+-- what is found after it
+step-meets : {S : Type 0} (acts : Acts S) (input : Input) (old s s' : S) (k k' : Keyboard) (a a' : List ℕ) (over over' : Bool) (since since' : ℕ) (r r' : Option (List ℕ)) (looks : List (Option ℕ)) (steps : ℕ) (starved : Bool)
+    (f f' : List Absence) → IsAt acts old looks over steps s since → Meets acts old looks over f steps → (at : Attends acts input k k' a a' over over' s s' since since' r r' starved)
+    → f' ≡ with_absence_if (acts.absence_at s') f → Meets acts old (looks ++ at.found) over' f' (steps + 1)
+step-meets {S} acts input old s s' k k' a a' over over' since since' r r' looks steps starved f f' i met at is more may =
+    let may' = may-join over over' at.found more at.stays at.over may in
+    let t = new_terminal old (looks ++ (at.found ++ more)) in
+    is
+    ∙ ap (λ x. with_absence_if (acts.absence_at s') x) (met (at.found ++ more) may')
+    ∙ ap (λ (x : Terminal S). with_absence_if (acts.absence_at x.machine) (absences_of acts steps t)) (sym (at.attends more may))
+    ∙ ap (λ x. with_absence_if (acts.absence_at (after_attention acts x).machine) (absences_of acts steps t)) (sym (i.at (at.found ++ more) may'))
+    ∙ sym (absences-next acts steps t)
+    ∙ ap (λ x. absences_of acts (steps + 1) x) (sym (joined acts old looks at.found more))
+
 -- ## Whether it was an end
 
 none-some : (why : TerminalEnd) → Some why ≡ None → ⊥
@@ -166,11 +184,11 @@ ends-by {S} acts t n steps (Ran printed) w last is = absurd (none-some w (sym is
 
 -- after a step
 pub running-next : {S : Type 0} (acts : Acts S) (form : Form) (input : Input) (old s s' new : S) (k k' : Keyboard) (a a' : List ℕ) (over over' : Bool) (since since' : ℕ)
-    (r r' r'' w w' w'' w''' : Option (List ℕ)) (p p' p'' : List ℕ) (steps : ℕ) (did : Stepped)
-    → IsRunning acts form input old s k a over since r r' w w' p steps → Attends acts input k k' a a' over over' s s' since since' r' r'' false
+    (r r' r'' w w' w'' w''' : Option (List ℕ)) (p p' p'' : List ℕ) (f f' : List Absence) (steps : ℕ) (did : Stepped)
+    → IsRunning acts form input old s k a over since r r' w w' p f steps → Attends acts input k k' a a' over over' s s' since since' r' r'' false
     → Passes w' w'' p p' [] → new ≡ (acts.printing_step s').0 → did ≡ (acts.printing_step s').1 → Passes w'' w''' p' p'' (visible_characters (character_of did)) → stop_of did ≡ None
-    → IsRunning acts form input old new k' a' over' (since' + 1) r r'' w w''' p'' (steps + 1)
-running-next {S} acts form input old s s' new k k' a a' over over' since since' r r' r'' w w' w'' w''' p p' p'' steps did i at none new_is did_is some goes = record {
+    → f' ≡ with_absence_if (acts.absence_at s') f → IsRunning acts form input old new k' a' over' (since' + 1) r r'' w w''' p'' f' (steps + 1)
+running-next {S} acts form input old s s' new k k' a a' over over' since since' r r' r'' w w' w'' w''' p p' p'' f f' steps did i at none new_is did_is some goes found = record {
   looks = i.looks ++ at.found;
   is_at = step-at acts input old s s' new k k' a a' over over' since since' r' r'' i.looks steps false i.is_at i.runs at refl new_is;
   runs = λ more may.
@@ -178,6 +196,7 @@ running-next {S} acts form input old s s' new k k' a a' over over' since since' 
       ∙ goes-by did goes;
   taken = taken-next acts form input k k' a a' over over' s s' since since' r r' r'' i.looks false i.taken at;
   prints = step-prints acts input old s s' k k' a a' over over' since since' r' r'' w w' w'' w''' p p' p'' i.looks steps false did i.is_at i.prints at none did_is some;
+  met = step-meets acts input old s s' k k' a a' over over' since since' r' r'' i.looks steps false f f' i.is_at i.met at found;
 }
 
 -- ## Steps between two looks
@@ -224,11 +243,22 @@ unasked-prints {S} acts old s looks over steps since w w' p i asks ran prints mo
     ∙ sym (printed-next acts steps t))
     (prints more may)
 
+unasked-meets : {S : Type 0} (acts : Acts S) (old s : S) (looks : List (Option ℕ)) (over : Bool) (steps since : ℕ) (f : List Absence) → IsAt acts old looks over steps s since
+    → acts.asks_for_key since s ≡ false → acts.absence_at s ≡ None → Meets acts old looks over f steps → Meets acts old looks over f (steps + 1)
+unasked-meets {S} acts old s looks over steps since f i asks there met more may =
+    let t = new_terminal old (looks ++ more) in
+    met more may
+    ∙ ap (λ (x : Option Absence). with_absence_if x (absences_of acts steps t)) (sym there)
+    ∙ ap (λ (b : Bool). let x : Terminal S = if b then after_look acts s more else record { machine = s; looks = more; since = since } in
+    with_absence_if (acts.absence_at x.machine) (absences_of acts steps t)) (sym asks)
+    ∙ ap (λ x. with_absence_if (acts.absence_at (after_attention acts x).machine) (absences_of acts steps t)) (sym (i.at more may))
+    ∙ sym (absences-next acts steps t)
+
 unasked-next : {S : Type 0} (acts : Acts S) (form : Form) (input : Input) (old s : S) (k : Keyboard) (a : List ℕ) (over : Bool) (since : ℕ)
-    (r r' w w' : Option (List ℕ)) (p : List ℕ) (steps : ℕ)
-    → IsRunning acts form input old s k a over since r r' w w' p steps → acts.asks_for_key since s ≡ false → (acts.printing_step s).1 ≡ Ran None
-    → IsRunning acts form input old (acts.printing_step s).0 k a over (since + 1) r r' w w' p (steps + 1)
-unasked-next {S} acts form input old s k a over since r r' w w' p steps i asks ran = record {
+    (r r' w w' : Option (List ℕ)) (p : List ℕ) (f : List Absence) (steps : ℕ)
+    → IsRunning acts form input old s k a over since r r' w w' p f steps → acts.asks_for_key since s ≡ false → (acts.printing_step s).1 ≡ Ran None → acts.absence_at s ≡ None
+    → IsRunning acts form input old (acts.printing_step s).0 k a over (since + 1) r r' w w' p f (steps + 1)
+unasked-next {S} acts form input old s k a over since r r' w w' p f steps i asks ran there = record {
   looks = i.looks;
   is_at = unasked-at acts old s i.looks over steps since i.is_at i.runs asks;
   runs = λ more may.
@@ -236,36 +266,38 @@ unasked-next {S} acts form input old s k a over since r r' w w' p steps i asks r
       ∙ unasked-did acts old s i.looks over steps since i.is_at asks more may ∙ ran);
   taken = i.taken;
   prints = unasked-prints acts old s i.looks over steps since w w' p i.is_at asks ran i.prints;
+  met = unasked-meets acts old s i.looks over steps since f i.is_at asks there i.met;
 }
 
 -- after so many such steps
 unasked-more : {S : Type 0} (acts : Acts S) (form : Form) (input : Input) (old s : S) (k : Keyboard) (a : List ℕ) (over : Bool) (since : ℕ)
-    (r r' w w' : Option (List ℕ)) (p : List ℕ) (steps count : ℕ) → IsRunning acts form input old s k a over since r r' w w' p steps
+    (r r' w w' : Option (List ℕ)) (p : List ℕ) (f : List Absence) (steps count : ℕ) → IsRunning acts form input old s k a over since r r' w w' p f steps
     → ((m : ℕ) → m < count → (acts.printing_step (after acts m s)).1 ≡ Ran None)
     → ((m : ℕ) → m < count → acts.asks_for_key (since + m) (after acts m s) ≡ false)
-    → IsRunning acts form input old (after acts count s) k a over (since + count) r r' w w' p (steps + count)
+    → ((m : ℕ) → m < count → acts.absence_at (after acts m s) ≡ None)
+    → IsRunning acts form input old (after acts count s) k a over (since + count) r r' w w' p f (steps + count)
 unfolding after
-unasked-more {S} acts form input old s k a over since r r' w w' p steps zero i answers asks =
+unasked-more {S} acts form input old s k a over since r r' w w' p f steps zero i answers asks there =
     let e : steps ≡ steps + 0 = omega arith in
-    let f : since ≡ since + 0 = omega arith in
-    subst (λ (m : ℕ). IsRunning acts form input old s k a over m r r' w w' p (steps + 0)) f
-    (subst (λ (m : ℕ). IsRunning acts form input old s k a over since r r' w w' p m) e i)
-unasked-more {S} acts form input old s k a over since r r' w w' p steps (suc count) i answers asks =
+    let g : since ≡ since + 0 = omega arith in
+    subst (λ (m : ℕ). IsRunning acts form input old s k a over m r r' w w' p f (steps + 0)) g
+    (subst (λ (m : ℕ). IsRunning acts form input old s k a over since r r' w w' p f m) e i)
+unasked-more {S} acts form input old s k a over since r r' w w' p f steps (suc count) i answers asks there =
     let e : steps + count + 1 ≡ steps + suc count = omega arith in
-    let f : since + count + 1 ≡ since + suc count = omega arith in
+    let g : since + count + 1 ≡ since + suc count = omega arith in
     let t = after acts count s in
-    let before = unasked-more acts form input old s k a over since r r' w w' p steps count i
-    (λ m below. answers m (omega (arith, below))) (λ m below. asks m (omega (arith, below))) in
-    let last = unasked-next acts form input old t k a over (since + count) r r' w w' p (steps + count) before (asks count (omega arith)) (answers count (omega arith)) in
-    subst (λ (m : ℕ). IsRunning acts form input old (acts.printing_step t).0 k a over m r r' w w' p (steps + suc count)) f
-    (subst (λ (m : ℕ). IsRunning acts form input old (acts.printing_step t).0 k a over (since + count + 1) r r' w w' p m) e last)
+    let before = unasked-more acts form input old s k a over since r r' w w' p f steps count i
+    (λ m below. answers m (omega (arith, below))) (λ m below. asks m (omega (arith, below))) (λ m below. there m (omega (arith, below))) in
+    let last = unasked-next acts form input old t k a over (since + count) r r' w w' p f (steps + count) before (asks count (omega arith)) (answers count (omega arith)) (there count (omega arith)) in
+    subst (λ (m : ℕ). IsRunning acts form input old (acts.printing_step t).0 k a over m r r' w w' p f (steps + suc count)) g
+    (subst (λ (m : ℕ). IsRunning acts form input old (acts.printing_step t).0 k a over (since + count + 1) r r' w w' p f m) e last)
 
 pub running-more : {S : Type 0} (acts : Acts S) (form : Form) (input : Input) (old s new : S) (k : Keyboard) (a : List ℕ) (over : Bool) (since : ℕ)
-    (r r' w w' : Option (List ℕ)) (p : List ℕ) (steps count : ℕ) → IsRunning acts form input old s k a over since r r' w w' p steps
-    → GoesUnasked acts since count s new → IsRunning acts form input old new k a over (since + count) r r' w w' p (steps + count)
-running-more {S} acts form input old s new k a over since r r' w w' p steps count i goes =
-    subst (λ x. IsRunning acts form input old x k a over (since + count) r r' w w' p (steps + count)) (sym goes.state)
-    (unasked-more acts form input old s k a over since r r' w w' p steps count i goes.answers goes.asks)
+    (r r' w w' : Option (List ℕ)) (p : List ℕ) (f : List Absence) (steps count : ℕ) → IsRunning acts form input old s k a over since r r' w w' p f steps
+    → GoesUnasked acts since count s new → IsRunning acts form input old new k a over (since + count) r r' w w' p f (steps + count)
+running-more {S} acts form input old s new k a over since r r' w w' p f steps count i goes =
+    subst (λ x. IsRunning acts form input old x k a over (since + count) r r' w w' p f (steps + count)) (sym goes.state)
+    (unasked-more acts form input old s k a over since r r' w w' p f steps count i goes.answers goes.asks goes.absences)
 
 -- ## The ends of a run
 
@@ -306,9 +338,9 @@ is-cut {S} acts form input n old new k a over since r r' looks steps i t within 
 }
 
 -- the machine stands stopped at first
-pub stopped-run : {S : Type 0} (acts : Acts S) (form : Form) (input : Input) (n : ℕ) (s : S) (r w : Option (List ℕ)) (p : List ℕ) → p ≡ [] → acts.is_running s ≡ false
-    → RunsInto acts form input n s s r r w w p (Ok (record { steps = 0; why = why.Halt }))
-stopped-run {S} acts form input n s r w p none stopped = (
+pub stopped-run : {S : Type 0} (acts : Acts S) (form : Form) (input : Input) (n : ℕ) (s : S) (r w : Option (List ℕ)) (p : List ℕ) (f : List Absence) → p ≡ [] → f ≡ [] → acts.is_running s ≡ false
+    → RunsInto acts form input n s s r r w w p f (Ok (record { steps = 0; why = why.Halt }))
+stopped-run {S} acts form input n s r w p f none empty stopped = (
   has-run acts form input n s s (fresh form) [] false 0 r r [] 0 why.Halt
       (record { at = λ more _. later-none acts (new_terminal s more); goes_on = λ more _ m below. absurd (omega (arith, below)) })
       (record { bytes = []; taken = consumes_none r; keyboard = refl; finds = finds-none input; none_only = λ before after is. absurd (none-empty before after is); at_end = λ h. absurd (true≢false (sym h)) })
@@ -320,17 +352,19 @@ stopped-run {S} acts form input n s r w p none stopped = (
   λ more _.
       subst (λ (q : List ℕ). Passes w w [] q (visible_characters (characters_of acts 0 (new_terminal s more)))) (sym none)
       (subst (λ cs. Passes w w [] [] (visible_characters cs)) (sym (printed-none acts (new_terminal s more))) (passes-none w [])),
+  λ more _. empty ∙ sym (absences-none acts (new_terminal s more)),
 )
 
 -- all steps are made
-pub limit-run : {S : Type 0} (acts : Acts S) (form : Form) (input : Input) (n : ℕ) (old new : S) (k : Keyboard) (a : List ℕ) (over : Bool) (since : ℕ) (r r' w w' : Option (List ℕ)) (p : List ℕ) (steps : ℕ)
-    → IsRunning acts form input old new k a over since r r' w w' p steps → steps ≡ n
-    → RunsInto acts form input n old new r r' w w' p (Ok (record { steps = n; why = why.Limit }))
-limit-run {S} acts form input n old new k a over since r r' w w' p steps i e =
-    subst (λ (m : ℕ). RunsInto acts form input n old new r r' w w' p (Ok (record { steps = m; why = why.Limit }))) e (
+pub limit-run : {S : Type 0} (acts : Acts S) (form : Form) (input : Input) (n : ℕ) (old new : S) (k : Keyboard) (a : List ℕ) (over : Bool) (since : ℕ) (r r' w w' : Option (List ℕ)) (p : List ℕ) (f : List Absence) (steps : ℕ)
+    → IsRunning acts form input old new k a over since r r' w w' p f steps → steps ≡ n
+    → RunsInto acts form input n old new r r' w w' p f (Ok (record { steps = n; why = why.Limit }))
+limit-run {S} acts form input n old new k a over since r r' w w' p f steps i e =
+    subst (λ (m : ℕ). RunsInto acts form input n old new r r' w w' p f (Ok (record { steps = m; why = why.Limit }))) e (
       has-run acts form input n old new k a over since r r' i.looks steps why.Limit i.is_at i.taken (omega (arith, e)) (λ more may. (e, i.runs more may))
           (λ is. absurd (no-keys why.Limit limit-keys is)),
       i.prints,
+      i.met,
     )
 
 -- looks were made that found no key: the machine is where it was
@@ -350,14 +384,19 @@ moved-prints {S} acts old over over' looks found w w' w'' p p' steps prints none
     let printed = visible_characters (characters_of acts steps (new_terminal old (looks ++ more))) in
     subst (λ cs. Passes w w'' [] p' cs) (append-nil printed) (passes-more w w' w'' [] p p' printed [] (prints more (λ h. may (goes h))) held))
 
+moved-meets : {S : Type 0} (acts : Acts S) (old : S) (over over' : Bool) (looks found : List (Option ℕ)) (f : List Absence) (steps : ℕ) → Meets acts old looks over f steps → found ≡ []
+    → (over ≡ true → over' ≡ true) → Meets acts old (looks ++ found) over' f steps
+moved-meets {S} acts old over over' looks found f steps met none goes =
+    subst (λ (l : List (Option ℕ)). Meets acts old l over' f steps) (sym (append-nil looks) ∙ ap (λ l. looks ++ l) (sym none)) (λ more may. met more (λ h. may (goes h)))
+
 -- the keys have ended for a machine that waits for one
 pub starved-run : {S : Type 0} (acts : Acts S) (form : Form) (input : Input) (n : ℕ) (old s s' : S) (k k' : Keyboard) (a a' : List ℕ) (over over' : Bool) (since since' : ℕ)
-    (r r' r'' w w' w'' : Option (List ℕ)) (p p' : List ℕ) (steps : ℕ)
-    → IsRunning acts form input old s k a over since r r' w w' p steps → steps < n → Attends acts input k k' a a' over over' s s' since since' r' r'' true
-    → Passes w' w'' p p' [] → RunsInto acts form input n old s' r r'' w w'' p' (Ok (record { steps = steps; why = why.Keys }))
-starved-run {S} acts form input n old s s' k k' a a' over over' since since' r r' r'' w w' w'' p p' steps i below at held =
+    (r r' r'' w w' w'' : Option (List ℕ)) (p p' : List ℕ) (f : List Absence) (steps : ℕ)
+    → IsRunning acts form input old s k a over since r r' w w' p f steps → steps < n → Attends acts input k k' a a' over over' s s' since since' r' r'' true
+    → Passes w' w'' p p' [] → RunsInto acts form input n old s' r r'' w w'' p' f (Ok (record { steps = steps; why = why.Keys }))
+starved-run {S} acts form input n old s s' k k' a a' over over' since since' r r' r'' w w' w'' p p' f steps i below at held =
     let none = (at.idle refl).1 in
-    subst (λ (x : S). RunsInto acts form input n old x r r'' w w'' p' (Ok (record { steps = steps; why = why.Keys }))) (sym (at.idle refl).0) (
+    subst (λ (x : S). RunsInto acts form input n old x r r'' w w'' p' f (Ok (record { steps = steps; why = why.Keys }))) (sym (at.idle refl).0) (
       has-run acts form input n old s k' a' over' since r r'' (i.looks ++ at.found) steps why.Keys
           (moved-at acts old s over over' since i.looks at.found steps i.is_at none at.over)
           (taken-next acts form input k k' a a' over over' s s' since since' r r' r'' i.looks true i.taken at)
@@ -371,15 +410,16 @@ starved-run {S} acts form input n old s s' k k' a a' over over' since since' r r
           ))
           (λ _. at.none_left refl),
       moved-prints acts old over over' i.looks at.found w w' w'' p p' steps i.prints none at.over held,
+      moved-meets acts old over over' i.looks at.found f steps i.met none at.over,
     )
 
 -- a step ends the run
 pub ended-run : {S : Type 0} (acts : Acts S) (form : Form) (input : Input) (n : ℕ) (old s s' new : S) (k k' : Keyboard) (a a' : List ℕ) (over over' : Bool) (since since' : ℕ)
-    (r r' r'' w w' w'' w''' : Option (List ℕ)) (p p' p'' : List ℕ) (steps : ℕ) (did : Stepped) (y : TerminalEnd)
-    → IsRunning acts form input old s k a over since r r' w w' p steps → steps < n → Attends acts input k k' a a' over over' s s' since since' r' r'' false
+    (r r' r'' w w' w'' w''' : Option (List ℕ)) (p p' p'' : List ℕ) (f f' : List Absence) (steps : ℕ) (did : Stepped) (y : TerminalEnd)
+    → IsRunning acts form input old s k a over since r r' w w' p f steps → steps < n → Attends acts input k k' a a' over over' s s' since since' r' r'' false
     → Passes w' w'' p p' [] → new ≡ (acts.printing_step s').0 → did ≡ (acts.printing_step s').1 → Passes w'' w''' p' p'' (visible_characters (character_of did)) → stop_of did ≡ Some y
-    → RunsInto acts form input n old new r r'' w w''' p'' (Ok (record { steps = steps + 1; why = y }))
-ended-run {S} acts form input n old s s' new k k' a a' over over' since since' r r' r'' w w' w'' w''' p p' p'' steps did y i below at none new_is did_is some is = (
+    → f' ≡ with_absence_if (acts.absence_at s') f → RunsInto acts form input n old new r r'' w w''' p'' f' (Ok (record { steps = steps + 1; why = y }))
+ended-run {S} acts form input n old s s' new k k' a a' over over' since since' r r' r'' w w' w'' w''' p p' p'' f f' steps did y i below at none new_is did_is some is found = (
   has-run acts form input n old new k' a' over' (since' + 1) r r'' (i.looks ++ at.found) (steps + 1) y
       (step-at acts input old s s' new k k' a a' over over' since since' r' r'' i.looks steps false i.is_at i.runs at refl new_is)
       (taken-next acts form input k k' a a' over over' s s' since since' r r' r'' i.looks false i.taken at)
@@ -389,44 +429,46 @@ ended-run {S} acts form input n old s s' new k k' a a' over over' since since' r
       (step-last acts input old s s' k k' a a' over over' since since' r' r'' i.looks steps false did i.is_at at did_is more may) is)
       (λ keys. absurd (no-keys y (stop-keys did y is) keys)),
   step-prints acts input old s s' k k' a a' over over' since since' r' r'' w w' w'' w''' p p' p'' i.looks steps false did i.is_at i.prints at none did_is some,
+  step-meets acts input old s s' k k' a a' over over' since since' r' r'' i.looks steps false f f' i.is_at i.met at found,
 )
 
 -- the writer fails at what a step printed
 pub unwritten-run : {S : Type 0} (acts : Acts S) (form : Form) (input : Input) (n : ℕ) (old s s' new : S) (k k' : Keyboard) (a a' : List ℕ) (over over' : Bool) (since since' : ℕ)
-    (r r' r'' w w' : Option (List ℕ)) (p : List ℕ) (steps : ℕ)
-    → IsRunning acts form input old s k a over since r r' w w' p steps → steps < n → Attends acts input k k' a a' over over' s s' since since' r' r'' false
+    (r r' r'' w w' : Option (List ℕ)) (p : List ℕ) (f : List Absence) (steps : ℕ)
+    → IsRunning acts form input old s k a over since r r' w w' p f steps → steps < n → Attends acts input k k' a a' over over' s s' since since' r' r'' false
     → new ≡ (acts.printing_step s').0 → IsCut acts form input n old new r r''
-unwritten-run {S} acts form input n old s s' new k k' a a' over over' since since' r r' r'' w w' p steps i below at new_is =
+unwritten-run {S} acts form input n old s s' new k k' a a' over over' since since' r r' r'' w w' p f steps i below at new_is =
     is-cut acts form input n old new k' a' over' (since' + 1) r r'' (i.looks ++ at.found) (steps + 1)
     (step-at acts input old s s' new k k' a a' over over' since since' r' r'' i.looks steps false i.is_at i.runs at refl new_is)
     (taken-next acts form input k k' a a' over over' s s' since since' r r' r'' i.looks false i.taken at)
     (omega (arith, below))
 
 -- the operator met a fault
-abbrev missed-cut : {S : Type 0} (acts : Acts S) (form : Form) (input : Input) (n : ℕ) (old s : S) (k k' : Keyboard) (a a' : List ℕ) (over : Bool) (since : ℕ) (r r' r'' w w' : Option (List ℕ)) (p : List ℕ) (steps : ℕ)
-    → (i : IsRunning acts form input old s k a over since r r' w w' p steps) → steps ≤ n → Misses k k' a a' over r' r'' → IsCut acts form input n old s r r''
-missed-cut {S} acts form input n old s k k' a a' over since r r' r'' w w' p steps i within m =
+abbrev missed-cut : {S : Type 0} (acts : Acts S) (form : Form) (input : Input) (n : ℕ) (old s : S) (k k' : Keyboard) (a a' : List ℕ) (over : Bool) (since : ℕ) (r r' r'' w w' : Option (List ℕ)) (p : List ℕ) (f : List Absence) (steps : ℕ)
+    → (i : IsRunning acts form input old s k a over since r r' w w' p f steps) → steps ≤ n → Misses k k' a a' over r' r'' → IsCut acts form input n old s r r''
+missed-cut {S} acts form input n old s k k' a a' over since r r' r'' w w' p f steps i within m =
     is-cut acts form input n old s k' a' over since r r'' (i.looks ++ []) steps
     (moved-at acts old s over over since i.looks [] steps i.is_at refl (λ h. h))
     (taken-more form input k k' a a' over over r r' r'' i.looks [] [] i.taken m.1 (finds-none input) tt (λ h. absurd (true≢false (sym h ∙ m.0))))
     within
 
-missed-runs : {S : Type 0} (acts : Acts S) (form : Form) (input : Input) (n : ℕ) (old s : S) (k k' : Keyboard) (a a' : List ℕ) (over : Bool) (since : ℕ) (r r' r'' w w' w'' : Option (List ℕ)) (p p' : List ℕ) (steps : ℕ)
-    (fault : TerminalFault) → IsRunning acts form input old s k a over since r r' w w' p steps → steps ≤ n → Misses k k' a a' over r' r''
-    → Holds {A = Bool} w' w'' p p' (Err fault) → RunsInto acts form input n old s r r'' w w'' p' (Err fault)
-missed-runs {S} acts form input n old s k k' a a' over since r r' r'' w w' w'' p p' steps Reader i within m held = (
-  missed-cut acts form input n old s k k' a a' over since r r' r'' w w' p steps i within m,
+missed-runs : {S : Type 0} (acts : Acts S) (form : Form) (input : Input) (n : ℕ) (old s : S) (k k' : Keyboard) (a a' : List ℕ) (over : Bool) (since : ℕ) (r r' r'' w w' w'' : Option (List ℕ)) (p p' : List ℕ) (f : List Absence) (steps : ℕ)
+    (fault : TerminalFault) → IsRunning acts form input old s k a over since r r' w w' p f steps → steps ≤ n → Misses k k' a a' over r' r''
+    → Holds {A = Bool} w' w'' p p' (Err fault) → RunsInto acts form input n old s r r'' w w'' p' f (Err fault)
+missed-runs {S} acts form input n old s k k' a a' over since r r' r'' w w' w'' p p' f steps Reader i within m held = (
+  missed-cut acts form input n old s k k' a a' over since r r' r'' w w' p f steps i within m,
   moved-prints acts old over over i.looks [] w w' w'' p p' steps i.prints refl (λ h. h) held,
+  moved-meets acts old over over i.looks [] f steps i.met refl (λ h. h),
 )
-missed-runs {S} acts form input n old s k k' a a' over since r r' r'' w w' w'' p p' steps Writer i within m held =
-    missed-cut acts form input n old s k k' a a' over since r r' r'' w w' p steps i within m
+missed-runs {S} acts form input n old s k k' a a' over since r r' r'' w w' w'' p p' f steps Writer i within m held =
+    missed-cut acts form input n old s k k' a a' over since r r' r'' w w' p f steps i within m
 
-pub missed-run : {S : Type 0} (acts : Acts S) (form : Form) (input : Input) (n : ℕ) (old s new : S) (k k' : Keyboard) (a a' : List ℕ) (over : Bool) (since : ℕ) (r r' r'' w w' w'' : Option (List ℕ)) (p p' : List ℕ) (steps : ℕ)
-    (fault : TerminalFault) → IsRunning acts form input old s k a over since r r' w w' p steps → steps ≤ n → Misses k k' a a' over r' r''
-    → Holds {A = Bool} w' w'' p p' (Err fault) → new ≡ s → RunsInto acts form input n old new r r'' w w'' p' (Err fault)
-missed-run {S} acts form input n old s new k k' a a' over since r r' r'' w w' w'' p p' steps fault i within m held is =
-    subst (λ (x : S). RunsInto acts form input n old x r r'' w w'' p' (Err fault)) (sym is)
-    (missed-runs acts form input n old s k k' a a' over since r r' r'' w w' w'' p p' steps fault i within m held)
+pub missed-run : {S : Type 0} (acts : Acts S) (form : Form) (input : Input) (n : ℕ) (old s new : S) (k k' : Keyboard) (a a' : List ℕ) (over : Bool) (since : ℕ) (r r' r'' w w' w'' : Option (List ℕ)) (p p' : List ℕ) (f : List Absence) (steps : ℕ)
+    (fault : TerminalFault) → IsRunning acts form input old s k a over since r r' w w' p f steps → steps ≤ n → Misses k k' a a' over r' r''
+    → Holds {A = Bool} w' w'' p p' (Err fault) → new ≡ s → RunsInto acts form input n old new r r'' w w'' p' f (Err fault)
+missed-run {S} acts form input n old s new k k' a a' over since r r' r'' w w' w'' p p' f steps fault i within m held is =
+    subst (λ (x : S). RunsInto acts form input n old x r r'' w w'' p' f (Err fault)) (sym is)
+    (missed-runs acts form input n old s k k' a a' over since r r' r'' w w' w'' p p' f steps fault i within m held)
 
 -- ## Handing on what is on the paper at last
 
@@ -436,17 +478,17 @@ flushed-prints {S} acts old looks over w w' w'' p p' steps prints held none more
     let printed = visible_characters (characters_of acts steps (new_terminal old (looks ++ more))) in
     passed w w'' p' printed (subst (λ cs. Passes w w'' [] p' cs) (append-nil printed) (passes-more w w' w'' [] p p' printed [] (prints more may) held)) none
 
-pub flushed-run : {S : Type 0} (acts : Acts S) (form : Form) (input : Input) (n : ℕ) (old new : S) (r r' w w' w'' : Option (List ℕ)) (p p' : List ℕ) (ran : Result Ended TerminalFault)
-    → RunsInto acts form input n old new r r' w w' p ran → Passes w' w'' p p' [] → p' ≡ [] → RunsProgram acts form input n old new r r' w w'' ran
-flushed-run {S} acts form input n old new r r' w w' w'' p p' (Ok ended) h held none =
-    (h.0, flushed-prints acts old h.0.looks h.0.is_over w w' w'' p p' ended.steps h.1 held none)
-flushed-run {S} acts form input n old new r r' w w' w'' p p' (Err Reader) h held none =
-    (h.0, flushed-prints acts old h.0.looks h.0.is_over w w' w'' p p' h.0.steps h.1 held none)
-flushed-run {S} acts form input n old new r r' w w' w'' p p' (Err Writer) h held none = h
+pub flushed-run : {S : Type 0} (acts : Acts S) (form : Form) (input : Input) (n : ℕ) (old new : S) (r r' w w' w'' : Option (List ℕ)) (p p' : List ℕ) (f : List Absence) (ran : Result Ended TerminalFault)
+    → RunsInto acts form input n old new r r' w w' p f ran → Passes w' w'' p p' [] → p' ≡ [] → RunsProgram acts form input n old new r r' w w'' f ran
+flushed-run {S} acts form input n old new r r' w w' w'' p p' f (Ok ended) h held none =
+    (h.0, flushed-prints acts old h.0.looks h.0.is_over w w' w'' p p' ended.steps h.1 held none, h.2)
+flushed-run {S} acts form input n old new r r' w w' w'' p p' f (Err Reader) h held none =
+    (h.0, flushed-prints acts old h.0.looks h.0.is_over w w' w'' p p' h.0.steps h.1 held none, h.2)
+flushed-run {S} acts form input n old new r r' w w' w'' p p' f (Err Writer) h held none = h
 
-pub cut-run : {S : Type 0} (acts : Acts S) (form : Form) (input : Input) (n : ℕ) (old new : S) (r r' w w' : Option (List ℕ)) (p : List ℕ) (ran : Result Ended TerminalFault)
-    → RunsInto acts form input n old new r r' w w' p ran → IsCut acts form input n old new r r'
-cut-run {S} acts form input n old new r r' w w' p (Ok ended) h = record {
+pub cut-run : {S : Type 0} (acts : Acts S) (form : Form) (input : Input) (n : ℕ) (old new : S) (r r' w w' : Option (List ℕ)) (p : List ℕ) (f : List Absence) (ran : Result Ended TerminalFault)
+    → RunsInto acts form input n old new r r' w w' p f ran → IsCut acts form input n old new r r'
+cut-run {S} acts form input n old new r r' w w' p f (Ok ended) h = record {
   looks = h.0.looks;
   is_over = h.0.is_over;
   steps = ended.steps;
@@ -454,5 +496,5 @@ cut-run {S} acts form input n old new r r' w w' p (Ok ended) h = record {
   within = (h.0.run [] (λ _. refl)).within;
   goes_on = λ more may. (h.0.run more may).goes_on;
 }
-cut-run {S} acts form input n old new r r' w w' p (Err Reader) h = h.0
-cut-run {S} acts form input n old new r r' w w' p (Err Writer) h = h
+cut-run {S} acts form input n old new r r' w w' p f (Err Reader) h = h.0
+cut-run {S} acts form input n old new r r' w w' p f (Err Writer) h = h

@@ -5,6 +5,7 @@ use Rattle.terminal8.specs.Keys.{keys_of}
 use Rattle.terminal8.specs.Papers.{Passes}
 use Rattle.terminal8.specs.Terminal.{visible_characters}
 use Rattle.terminal8.specs.Run.{MayFollow, FindsKey, FindsNone, HaveEnded}
+use Rattle.terminal8.specs.declared.absences.Absence.{Absence}
 use Rattle.terminal8.specs.declared.inputs.Input.{Input}
 use Rattle.terminal8.specs.declared.keyboards.Form.{Form}
 use Rattle.terminal8.specs.declared.outcomes.Ended.{Ended}
@@ -12,7 +13,7 @@ use Rattle.terminal8.specs.declared.outcomes.TerminalFault.{TerminalFault}
 use Rattle.terminal8.specs.declared.outcomes.TerminalFault.TheVariants.{Reader, Writer}
 use Rattle.terminal8.specs.declared.outcomes.TerminalEnd.TheVariants as why
 use Rattle.terminal8e.specs.Acts.{Acts}
-use Rattle.terminal8e.specs.AnyTerminal.{new_terminal, later, characters_of, GoesOn, IsRun}
+use Rattle.terminal8e.specs.AnyTerminal.{new_terminal, later, characters_of, absences_of, GoesOn, IsRun}
 
 -- A machine made so many steps, in which these looks were made, whatever later ones would have found. They found the keys of
 -- bytes that the reader gave. Bytes after those that were read ahead are no part of the run.
@@ -53,10 +54,17 @@ abbrev pub Prints : {S : Type 0} → Acts S → S → List (Option ℕ) → Bool
 Prints {S} acts s looks is_over writer writer' paper steps =
     (more : List (Option ℕ)) → MayFollow is_over more → Passes writer writer' [] paper (visible_characters (characters_of acts steps (new_terminal s (looks ++ more))))
 
--- What a run of at most n steps answers. Where the reader fails the writer got what was printed so far.
-abbrev pub RunsProgram : {S : Type 0} → Acts S → Form → Input → ℕ → S → S → Option (List ℕ) → Option (List ℕ) → Option (List ℕ) → Option (List ℕ) → Result Ended TerminalFault → Type 0
-RunsProgram {S} acts form input n old new reader reader' writer writer' (Ok ended) =
+-- these are the IOTs of absent devices that so many steps did
+abbrev pub Meets : {S : Type 0} → Acts S → S → List (Option ℕ) → Bool → List Absence → ℕ → Type 0
+Meets {S} acts s looks is_over absences steps =
+    (more : List (Option ℕ)) → MayFollow is_over more → absences ≡ absences_of acts steps (new_terminal s (looks ++ more))
+
+-- What a run of at most n steps answers, and the IOTs of absent devices that it did. Where the reader fails the writer got what was printed so far.
+abbrev pub RunsProgram : {S : Type 0} → Acts S → Form → Input → ℕ → S → S → Option (List ℕ) → Option (List ℕ) → Option (List ℕ) → Option (List ℕ) → List Absence → Result Ended TerminalFault → Type 0
+RunsProgram {S} acts form input n old new reader reader' writer writer' absences (Ok ended) =
     (ran : IsRunOf acts form input n old new reader reader' ended) × WritesPrinted acts old ran.looks ran.is_over writer writer' ended.steps
-RunsProgram {S} acts form input n old new reader reader' writer writer' (Err Reader) =
+    × Meets acts old ran.looks ran.is_over absences ended.steps
+RunsProgram {S} acts form input n old new reader reader' writer writer' absences (Err Reader) =
     (cut : IsCut acts form input n old new reader reader') × WritesPrinted acts old cut.looks cut.is_over writer writer' cut.steps
-RunsProgram {S} acts form input n old new reader reader' writer writer' (Err Writer) = IsCut acts form input n old new reader reader'
+    × Meets acts old cut.looks cut.is_over absences cut.steps
+RunsProgram {S} acts form input n old new reader reader' writer writer' absences (Err Writer) = IsCut acts form input n old new reader reader'

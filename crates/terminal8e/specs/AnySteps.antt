@@ -5,6 +5,7 @@ use Rattle.terminal8.specs.Terminal.{is_none_left}
 use Rattle.terminal8.specs.Run.{MayFollow, FindsKey, HaveEnded}
 use Rattle.terminal8.specs.KeyReads.{StrikesKeys}
 use Rattle.terminal8.specs.RunSteps.{IsNoneOnly}
+use Rattle.terminal8.specs.declared.absences.Absence.{Absence}
 use Rattle.terminal8.specs.declared.inputs.Input.{Input}
 use Rattle.terminal8.specs.declared.keyboards.Form.{Form}
 use Rattle.terminal8.specs.declared.outcomes.Ended.{Ended}
@@ -12,7 +13,7 @@ use Rattle.terminal8.specs.declared.outcomes.TerminalFault.{TerminalFault}
 use Rattle.terminal8.specs.declared.outcomes.TerminalFault.TheVariants.{Reader, Writer}
 use Rattle.terminal8e.specs.Acts.{Acts}
 use Rattle.terminal8e.specs.AnyTerminal.{new_terminal, after_look, after_attention, starves}
-use Rattle.terminal8e.specs.AnyRun.{IsCut, IsRunOf, Prints}
+use Rattle.terminal8e.specs.AnyRun.{IsCut, IsRunOf, Meets, Prints}
 
 -- ## The operator
 
@@ -50,9 +51,11 @@ pub record Attends {S : Type 0} (acts : Acts S) (input : Input) (k k' : Keyboard
 -- ## The run
 
 -- the answer of a run whose last printed characters may still be on the paper
-abbrev pub RunsInto : {S : Type 0} → Acts S → Form → Input → ℕ → S → S → Option (List ℕ) → Option (List ℕ) → Option (List ℕ) → Option (List ℕ) → List ℕ → Result Ended TerminalFault → Type 0
-RunsInto {S} acts form input n old new reader reader' writer writer' paper (Ok ended) =
+abbrev pub RunsInto : {S : Type 0} → Acts S → Form → Input → ℕ → S → S → Option (List ℕ) → Option (List ℕ) → Option (List ℕ) → Option (List ℕ) → List ℕ → List Absence → Result Ended TerminalFault → Type 0
+RunsInto {S} acts form input n old new reader reader' writer writer' paper absences (Ok ended) =
     (ran : IsRunOf acts form input n old new reader reader' ended) × Prints acts old ran.looks ran.is_over writer writer' paper ended.steps
-RunsInto {S} acts form input n old new reader reader' writer writer' paper (Err Reader) =
+    × Meets acts old ran.looks ran.is_over absences ended.steps
+RunsInto {S} acts form input n old new reader reader' writer writer' paper absences (Err Reader) =
     (cut : IsCut acts form input n old new reader reader') × Prints acts old cut.looks cut.is_over writer writer' paper cut.steps
-RunsInto {S} acts form input n old new reader reader' writer writer' paper (Err Writer) = IsCut acts form input n old new reader reader'
+    × Meets acts old cut.looks cut.is_over absences cut.steps
+RunsInto {S} acts form input n old new reader reader' writer writer' paper absences (Err Writer) = IsCut acts form input n old new reader reader'

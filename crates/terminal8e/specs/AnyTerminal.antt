@@ -5,7 +5,9 @@ use Rattle.cpu8.specs.Go.{character_of}
 use Rattle.cpu8.specs.Laws.{runs_on}
 use Rattle.cpu8.specs.declared.outcomes.Stepped.{Stepped}
 use Rattle.cpu8.specs.declared.outcomes.Stepped.TheVariants.{Stopped, Ran, Unassigned}
+use Rattle.terminal8.specs.Absences.{with_absence_if}
 use Rattle.terminal8.specs.Terminal.{is_none_left, has_halted}
+use Rattle.terminal8.specs.declared.absences.Absence.{Absence}
 use Rattle.terminal8.specs.declared.outcomes.TerminalEnd.{TerminalEnd}
 use Rattle.terminal8.specs.declared.outcomes.TerminalEnd.TheVariants as why
 use Rattle.terminal8e.specs.Acts.{Acts}
@@ -54,6 +56,11 @@ unfoldable pub characters_of : {S : Type 0} → Acts S → ℕ → Terminal S �
 characters_of {S} acts zero t = []
 characters_of {S} acts (suc k) t = characters_of acts k t ++ character_of (after_step acts (later acts k t)).1
 
+-- the IOTs of devices that aren't there which so many steps do: the first of each device, of eight devices at most
+unfoldable pub absences_of : {S : Type 0} → Acts S → ℕ → Terminal S → List Absence
+absences_of {S} acts zero t = []
+absences_of {S} acts (suc k) t = with_absence_if (acts.absence_at (after_attention acts (later acts k t)).machine) (absences_of acts k t)
+
 -- ## Steps between two looks
 
 -- the machine after so many steps without a key
@@ -62,11 +69,12 @@ after {S} acts zero s = s
 after {S} acts (suc k) s = (acts.printing_step (after acts k s)).0
 
 -- A machine makes so many steps that print nothing and go on. In none of them its program asks for a key, so many steps after the last
--- look.
+-- look, or for a device that isn't there.
 pub record GoesUnasked {S : Type 0} (acts : Acts S) (since count : ℕ) (old new : S) : Type 0 where
   pub state : new ≡ after acts count old
   pub answers : (m : ℕ) → m < count → (acts.printing_step (after acts m old)).1 ≡ Ran None
   pub asks : (m : ℕ) → m < count → acts.asks_for_key (since + m) (after acts m old) ≡ false
+  pub absences : (m : ℕ) → m < count → acts.absence_at (after acts m old) ≡ None
 
 -- ## Ends
 

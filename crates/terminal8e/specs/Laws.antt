@@ -2,6 +2,7 @@
 use Rattle.std.specs.Prelude.{◌≡◌, ◌⊎◌, ℕ, List, Option}
 use Rattle.cpu8.specs.Reference.{after_fetch}
 use Rattle.cpu8e.specs.State.{State8e, with_base}
+use Rattle.terminal8.specs.declared.absences.Absence.{Absence}
 use Rattle.terminal8.specs.declared.keyboards.Form.{Form}
 use Rattle.terminal8.specs.declared.outcomes.Ended.{Ended}
 use Rattle.terminal8e.specs.AnyLaws as any
@@ -17,6 +18,6 @@ IsInLoop s now = (now ≡ s) ⊎ (now ≡ with_base s (after_fetch s.base))
 abbrev pub terminal_of : Form → State8e → List ℕ → Terminal
 terminal_of form s bytes = any.terminal_of form s bytes
 
--- A run of at most n steps of a terminal, the machine that it leaves, and what a writer got.
-abbrev pub IsWholeRun : Terminal → ℕ → State8e → Option (List ℕ) → Option (List ℕ) → Ended → Type 0
-IsWholeRun t n new writer writer' ended = any.IsWholeRun terminal_acts t n new writer writer' ended
+-- A run of at most n steps of a terminal, the machine that it leaves, what a writer got, and the IOTs of absent devices that it did.
+abbrev pub IsWholeRun : Terminal → ℕ → State8e → Option (List ℕ) → Option (List ℕ) → List Absence → Ended → Type 0
+IsWholeRun t n new writer writer' absences ended = any.IsWholeRun terminal_acts t n new writer writer' absences ended

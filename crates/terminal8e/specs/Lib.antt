@@ -1,4 +1,5 @@
 pub mod Asks
+pub mod Absences
 pub mod Acts
 pub mod AnyTerminal
 pub mod AnyRun

@@ -11,12 +11,12 @@ use Rattle.terminal8.specs.declared.outcomes.Ended.{Ended}
 use Rattle.terminal8.specs.declared.outcomes.TerminalFault.{TerminalFault}
 use Rattle.terminal8e.specs.Acts.{Acts}
 use Rattle.terminal8e.specs.AnyTerminal.{new_terminal, later, last_did, GoesOn}
-use Rattle.terminal8e.specs.AnyRun.{Prints, RunsProgram}
+use Rattle.terminal8e.specs.AnyRun.{Meets, Prints, RunsProgram}
 use Rattle.terminal8e.specs.declared.sittings.Sitting.{Sitting}
 
 -- A run has come so far. The machine was the first one, and made so many steps, of which none was an end. In them these looks were made, whatever
 -- later ones will find. They found the keys of bytes that the reader gave; the bytes after those were read ahead. What was printed is with the writer,
--- or on the paper.
+-- or on the paper. These IOTs of absent devices were done.
 pub record HasComeTo {S : Type 0} (acts : Acts S) (form : Form) (input : Input) (first now : S) (sitting : Sitting) (reader reader' writer writer' : Option (List ℕ)) (paper : List ℕ) : Type 0 where
   pub looks : List (Option ℕ)
   pub bytes : List ℕ
@@ -30,6 +30,7 @@ pub record HasComeTo {S : Type 0} (acts : Acts S) (form : Form) (input : Input) 
   pub goes_on : (more : List (Option ℕ)) → MayFollow sitting.operator.is_over more → (k : ℕ) → k < sitting.steps → GoesOn acts (new_terminal first (looks ++ more)) k
   pub runs : (more : List (Option ℕ)) → MayFollow sitting.operator.is_over more → runs_on (last_did acts sitting.steps (new_terminal first (looks ++ more))) ≡ true
   pub prints : Prints acts first looks sitting.operator.is_over writer writer' paper sitting.steps
+  pub met : Meets acts first looks sitting.operator.is_over sitting.absences sitting.steps
 
 -- all that was printed is with the writer
 abbrev pub HasCome : {S : Type 0} → Acts S → Form → Input → S → S → Sitting → Option (List ℕ) → Option (List ℕ) → Option (List ℕ) → Option (List ℕ) → Type 0
@@ -42,8 +43,8 @@ IsWithin n sitting = (sitting.steps ≤ n) × (sitting.operator.since ≤ sittin
 -- What a part of a run of at most n steps comes to. The run goes on later; or it ends, and is as one that was made at once.
 abbrev pub ComesTo : {S : Type 0} → Acts S → Form → Input → ℕ → S → S → Sitting → Option (List ℕ) → Option (List ℕ) → Option (List ℕ) → Option (List ℕ) → Result (Option Ended) TerminalFault → Type 0
 ComesTo {S} acts form input n first now sitting reader reader' writer writer' (Ok None) = HasCome acts form input first now sitting reader reader' writer writer'
-ComesTo {S} acts form input n first now sitting reader reader' writer writer' (Ok (Some ended)) = RunsProgram acts form input n first now reader reader' writer writer' (Ok ended)
-ComesTo {S} acts form input n first now sitting reader reader' writer writer' (Err fault) = RunsProgram acts form input n first now reader reader' writer writer' (Err fault)
+ComesTo {S} acts form input n first now sitting reader reader' writer writer' (Ok (Some ended)) = RunsProgram acts form input n first now reader reader' writer writer' sitting.absences (Ok ended)
+ComesTo {S} acts form input n first now sitting reader reader' writer writer' (Err fault) = RunsProgram acts form input n first now reader reader' writer writer' sitting.absences (Err fault)
 
 -- a part that is no end made so many steps, or came to a look after so many of the run; the run has steps left
 abbrev pub IsPause : ℕ → ℕ → ℕ → Sitting → Sitting → Result (Option Ended) TerminalFault → Type 0

@@ -6,6 +6,7 @@ use Rattle.cpu8e.specs.Runs.{printing_step}
 use Rattle.terminal8.specs.declared.outcomes.TerminalEnd.{TerminalEnd}
 use Rattle.terminal8e.specs.Acts.{Acts}
 use Rattle.terminal8e.specs.AnyTerminal as any
+use Rattle.terminal8e.specs.Absences.{absence_at}
 use Rattle.terminal8e.specs.Asks.{asks_for_key, waits_for_key}
 
 -- what a terminal asks of an 8/E
@@ -16,6 +17,7 @@ terminal_acts = record {
   waits_for_key = waits_for_key;
   key_struck = key_struck;
   printing_step = printing_step;
+  absence_at = absence_at;
 }
 
 -- a machine, what the operator's next looks find, and the steps since the last look

@@ -3,9 +3,12 @@
 ghost use Rattle.std.specs.Prelude.{◌≡◌, ℕ, ◌+◌, ◌<◌, ◌≤◌, ◌&&◌, ◌||◌, not, nat_le, false};
 ghost use Rattle.cpu8e.specs.State.{is_requested_by_others};
 ghost use Rattle.cpu8e.specs.Step.{next_word};
+ghost use Rattle.terminal8e.specs.Absences.{absence_at, is_at_absent};
 ghost use Rattle.terminal8e.specs.Asks.{asks_for_key, is_at_ksf, is_at_rest, is_requested_without_key, is_undisturbed, is_waiting, may_see_key, tests_keyboard, waits_for_key};
 
+use cpu8::decoding::is_absent;
 use cpu8e::Machine;
+use terminal8::Absence;
 use word12::Word;
 
 /// Whether the program asks for a key, so many steps after the last look. It does where no key is unread, and one of these holds. It
@@ -52,6 +55,29 @@ pub fn waits_for_key(machine: &Machine) -> bool
         && is_at_ksf(machine)
         && machine.jumps_back()
         && is_at_rest(machine)
+}
+
+/// What the next step of a processor does, if it is an IOT of a device that isn't there, and no interrupt. In user mode no IOT is done. Only
+/// console and memory extension are there.
+#[inline(always)]
+pub fn absence_at(machine: &Machine) -> Option<Absence>
+    ensures { result ≡ absence_at machine.now }
+{
+    if !is_at_absent(machine) {
+        return None;
+    }
+    Some(Absence {
+        word: next_word(machine),
+        cell: machine.next_cell(),
+    })
+}
+
+/// Whether the next step is an IOT of a device that isn't there.
+#[inline(always)]
+fn is_at_absent(machine: &Machine) -> bool
+    ensures { result ≡ is_at_absent machine.now }
+{
+    is_absent(next_word(machine)) && !machine.user_flag() && is_undisturbed(machine)
 }
 
 /// Whether the next step is a KSF to which a JMP leads back.

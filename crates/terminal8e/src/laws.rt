@@ -3,6 +3,7 @@
 ghost use Rattle.std.specs.Prelude.{◌≡◌, ℕ, ◌+◌, true, List, ◌++◌, Option, Some, Ok};
 ghost use Rattle.cpu8e.specs.State.{State8e};
 ghost use Rattle.cpu8e.specs.Runs.{after};
+ghost use Rattle.terminal8.specs.declared.absences.Absence.{Absence};
 ghost use Rattle.terminal8.specs.declared.inputs.Input.TheVariants.{Ending};
 ghost use Rattle.terminal8.specs.declared.keyboards.Form.{Form};
 ghost use Rattle.terminal8.specs.declared.outcomes.Ended.{Ended};
@@ -46,9 +47,9 @@ pub fn one_end()
 /// not matter how far the reader was read.
 pub fn known_bytes()
     ensures { (form : Form) (n : ℕ) (old new : State8e) (bytes left : List ℕ)
-        (writer written : Option (List ℕ)) (ended : Ended)
-        → RunsProgram form Ending n old new (Some bytes) (Some left) writer written (Ok ended)
-        → IsWholeRun (terminal_of form old bytes) n new writer written ended }
+        (writer written : Option (List ℕ)) (absences : List Absence) (ended : Ended)
+        → RunsProgram form Ending n old new (Some bytes) (Some left) writer written absences (Ok ended)
+        → IsWholeRun (terminal_of form old bytes) n new writer written absences ended }
 {
     any::known_bytes::<Machine>();
 }

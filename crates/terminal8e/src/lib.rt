@@ -13,7 +13,7 @@ mod processors;
 mod runs;
 mod sittings;
 
-pub use asking::{asks_for_key, is_late, steps_before_look, waits_for_key};
+pub use asking::{absence_at, asks_for_key, is_late, steps_before_look, waits_for_key};
 pub use machines::TerminalMachine;
 pub use processors::run;
 pub use runs::run_machine;

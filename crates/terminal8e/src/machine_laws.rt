@@ -1,6 +1,7 @@
 //! Laws of machines at a terminal.
 
 ghost use Rattle.std.specs.Prelude.{◌≡◌, ℕ, ◌+◌, List, ◌++◌, Option, Some, Ok};
+ghost use Rattle.terminal8.specs.declared.absences.Absence.{Absence};
 ghost use Rattle.terminal8.specs.declared.inputs.Input.TheVariants.{Ending};
 ghost use Rattle.terminal8.specs.declared.keyboards.Form.{Form};
 ghost use Rattle.terminal8.specs.declared.outcomes.Ended.{Ended};
@@ -31,7 +32,7 @@ pub fn one_end<M: TerminalMachine>()
 /// not matter how far the reader was read.
 pub fn known_bytes<M: TerminalMachine>()
     ensures { (form : Form) (n : ℕ) (old new : M) (bytes left : List ℕ)
-        (writer written : Option (List ℕ)) (ended : Ended)
-        → RunsProgram M.acts form Ending n old new (Some bytes) (Some left) writer written (Ok ended)
-        → IsWholeRun M.acts (terminal_of form old bytes) n new writer written ended }
+        (writer written : Option (List ℕ)) (absences : List Absence) (ended : Ended)
+        → RunsProgram M.acts form Ending n old new (Some bytes) (Some left) writer written absences (Ok ended)
+        → IsWholeRun M.acts (terminal_of form old bytes) n new writer written absences ended }
 {}

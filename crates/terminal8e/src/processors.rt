@@ -4,13 +4,13 @@ ghost use Rattle.std.specs.Prelude.{◌≡◌, IfErr};
 ghost use Rattle.terminal8.specs.declared.outcomes.TerminalFault.TheVariants as fault;
 ghost use Rattle.terminal8e.specs.Run.{RunsProgram};
 
-use crate::asking::{asks_for_key, is_late, steps_before_look, waits_for_key};
+use crate::asking::{absence_at, asks_for_key, is_late, steps_before_look, waits_for_key};
 use crate::machines::TerminalMachine;
 use crate::runs::run_machine;
 use byte_reader::ByteReader;
 use cpu8::Stepped;
 use cpu8e::Machine;
-use terminal8::{Ended, Form, Input, Output, TerminalFault};
+use terminal8::{Absence, Absences, Ended, Form, Input, Output, TerminalFault};
 
 impl TerminalMachine for Machine {
     ghost use Rattle.terminal8e.specs.Terminal.{terminal_acts};
@@ -35,11 +35,12 @@ impl TerminalMachine for Machine {
     }
 
     #[inline]
-    fn make_step(&mut self) -> Stepped {
+    fn make_step(&mut self) -> (Stepped, Option<Absence>) {
+        let absence = absence_at(self);
         if self.is_busy() {
             self.end_character();
         }
-        self.step()
+        (self.step(), absence)
     }
 
     #[inline]
@@ -55,14 +56,15 @@ pub fn run<R: ByteReader, O: Output>(
     n: u64,
     form: Form,
     input: Input,
+    absences: &mut Absences,
     reader: &mut R,
     writer: &mut O,
 ) -> Result<Ended, TerminalFault>
     ensures runs { RunsProgram form input n machine.old machine.new
         (R.remaining reader.old) (R.remaining reader.new)
-        (O.contents writer.old) (O.contents writer.new) result }
+        (O.contents writer.old) (O.contents writer.new) absences.new result }
     ensures cause { IfErr result (λ e. e ≡ fault.Writer → O.has_failed writer.new) }
     ensures failed { IfErr result (λ e. e ≡ fault.Reader → R.has_failed reader.new) }
 {
-    run_machine(machine, n, form, input, reader, writer)
+    run_machine(machine, n, form, input, absences, reader, writer)
 }

@@ -2,6 +2,7 @@
 
 ghost use Rattle.std.specs.Prelude.{◌≡◌, ◌≤◌, ℕ, [], true, false, Option, List, Ok, IfOk, IfErr};
 ghost use Rattle.cpu8.specs.Go.{character_of};
+ghost use Rattle.terminal8.specs.Absences.{with_absence_if};
 ghost use Rattle.terminal8.specs.Keys.{fresh};
 ghost use Rattle.terminal8.specs.Papers.{Passes};
 ghost use Rattle.terminal8.specs.Terminal.{visible_characters};
@@ -15,13 +16,15 @@ use crate::machines::TerminalMachine;
 use crate::operators::Operator;
 use byte_reader::ByteReader;
 use cpu8::Stepped;
-use terminal8::{Ended, Form, Input, Output, Paper, TerminalEnd, TerminalFault, stop_of};
+use terminal8::{Absences, Ended, Form, Input, Output, Paper, TerminalEnd, TerminalFault, stop_of};
 
-/// A run at a terminal that is made in parts: who strikes its keys, and how many steps are made.
+/// A run at a terminal that is made in parts: who strikes its keys, how many steps are made, and what they found.
 #[derive(Drop)]
 pub struct Sitting {
     operator: Operator,
     steps: u64,
+    /// The IOTs of devices that aren't there which these steps did.
+    absences: Absences,
 }
 
 impl Sitting {
@@ -31,10 +34,12 @@ impl Sitting {
         ensures begun { (reader writer : Option (List ℕ)) → HasCome M.acts form input _machine.now _machine.now result reader reader writer writer }
         ensures operator { result.operator ≡ record { keyboard = fresh form; ahead = []; input = input; is_over = false; since = 0 } }
         ensures steps { result.steps ≡ 0 }
+        ensures absences { result.absences ≡ [] }
     {
         Sitting {
             operator: Operator::new(form, input),
             steps: 0,
+            absences: Absences::new(),
         }
     }
 
@@ -43,6 +48,20 @@ impl Sitting {
         ensures { result ≡ self.now.steps }
     {
         self.steps
+    }
+
+    /// The IOTs of devices that aren't there which its steps did: the first of each device, of eight devices at most.
+    pub fn absences(&self) -> &Absences
+        ensures { result.now ≡ self.now.absences }
+    {
+        &self.absences
+    }
+
+    /// The same, when it ends.
+    pub fn into_absences(self) -> Absences
+        ensures { result ≡ self.absences }
+    {
+        self.absences
     }
 
     /// Makes a further part of a run of at most n steps of a machine, as `run_machine` makes them all. The part ends where the run does, or
@@ -83,7 +102,7 @@ impl Sitting {
         ensures ended { result ≡ record { steps = self.now.steps; why = why.Limit } }
         ensures runs { (first : M) (form : Form) (before left written contents : Option (List ℕ))
             → HasCome M.acts form self.now.operator.input first _machine.now self.now before left written contents
-            → RunsProgram M.acts form self.now.operator.input self.now.steps first _machine.now before left written contents (Ok result) }
+            → RunsProgram M.acts form self.now.operator.input self.now.steps first _machine.now before left written contents self.now.absences (Ok result) }
     {
         Ended {
             steps: self.steps,
@@ -129,7 +148,7 @@ impl Sitting {
                     why: TerminalEnd::Keys,
                 }));
             }
-            let did = step(machine, paper, writer)?;
+            let did = step(machine, &mut self.absences, paper, writer)?;
             self.operator.since += 1;
             self.steps += 1;
             if let Some(why) = stop_of(did) {
@@ -152,21 +171,25 @@ impl Sitting {
     }
 }
 
-/// A step, before which the printer ends its character; and what it prints is put on paper.
+/// A step, before which the printer ends its character. What it prints is put on paper, and what it does is added, if it is an IOT of a
+/// device that isn't there.
 #[inline(always)]
 fn step<M: TerminalMachine, O: Output>(
     machine: &mut M,
+    absences: &mut Absences,
     paper: &mut Paper,
     writer: &mut O,
 ) -> Result<Stepped, TerminalFault>
     ensures state { machine.new ≡ (M.acts.printing_step machine.old).0 }
+    ensures absences { absences.new ≡ with_absence_if (M.acts.absence_at machine.old) absences.old }
     ensures ok { IfOk result (λ did. (did ≡ (M.acts.printing_step machine.old).1)
         × Passes (O.contents writer.old) (O.contents writer.new) paper.old paper.new
         (visible_characters (character_of did))) }
     ensures err { IfErr result (λ e. e ≡ fault.Writer) }
     ensures cause { IfErr result (λ _. O.has_failed writer.new) }
 {
-    let did = machine.make_step();
+    let (did, absence) = machine.make_step();
+    absences.add(absence);
     paper.print(writer, &did)?;
     Ok(did)
 }

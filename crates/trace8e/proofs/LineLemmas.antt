@@ -15,7 +15,8 @@ use Rattle.pdp8e.specs.Terminal.{Terminal, later, next, after_attention, after_s
 use Rattle.trace8.specs.Stores.{changing_cells}
 use Rattle.trace8.specs.Trace.{change_text, changes_text, printed_text}
 use Rattle.trace8e.specs.Names.{instruction_of_8e}
-use Rattle.trace8e.specs.Trace.{instruction_text, moved_text, next_line, registers_text, step_line, step_text, trace_lines}
+use Rattle.pdp8e.specs.Transfers.{moved_text}
+use Rattle.trace8e.specs.Trace.{instruction_text, next_line, registers_text, step_line, step_text, trace_lines}
 use Rattle.trace8.specs.StoresSteps.{change_line, word_at}
 use Rattle.trace8e.specs.StoresSteps.{IsBefore, change_lines, instruction_line, trace_line, step_report}
 use Rattle.trace8e.specs.declared.stores.Before.{Before}

@@ -1,7 +1,7 @@
 -- The lines of a trace of the 8/E (this project's profile): a line for each step of a machine at a terminal, the 8/I's with MQ after L. Before it
 -- comes a line of the transfer that ends in the beginning of the step.
-use Rattle.std.specs.Prelude.{ℕ, zero, suc, nat_eq, Bool, if◌then◌else◌, List, [], ◌∷◌, ◌++◌, codes, Option, None, Some}
-use Rattle.word12.specs.Octal.{octal4, octal5, octal_digit}
+use Rattle.std.specs.Prelude.{ℕ, zero, suc, Bool, List, [], ◌∷◌, ◌++◌, codes}
+use Rattle.word12.specs.Octal.{octal4, octal5}
 use Rattle.cpu8.specs.State.{State, next_cell}
 use Rattle.cpu8.specs.declared.outcomes.Stepped.{Stepped}
 use Rattle.cpu8.specs.declared.outcomes.Stepped.TheVariants.{Stopped, Interrupted, Ran, Halted, Unassigned}
@@ -9,9 +9,8 @@ use Rattle.cpu8e.specs.State.{State8e}
 use Rattle.cpu8e.specs.Step.{next_word}
 use Rattle.cpu8.specs.Step as Pdp8i
 use Rattle.tape_source.specs.Lines.{with_lead}
-use Rattle.rk8e.specs.declared.moves.Moved.{Moved}
-use Rattle.rk8e.specs.declared.sizes.TheConstants.{SECTOR}
 use Rattle.pdp8e.specs.Terminal.{Terminal, later, after_step, at_step, move_at}
+use Rattle.pdp8e.specs.Transfers.{moved_text}
 use Rattle.trace8.specs.Stores.{changing_cells}
 use Rattle.trace8.specs.Trace.{changes_text, printed_text}
 use Rattle.trace8.specs.Trace as Trace8i
@@ -38,21 +37,6 @@ abbrev pub step_line : (ℕ → Bool) → State8e → Stepped → State8e → Li
 step_line tagged s did s' =
     step_text tagged s.base did ++ registers_text s'
     ++ changes_text s.base.core s'.base.core (changing_cells s.base (next_word s) did) ++ printed_text did ++ 10 ∷ []
-
--- which way a transfer moved its words, and how many
-abbrev pub way_text : Bool → List ℕ
-way_text is_write = if is_write then codes " write " else codes " read "
-
-abbrev pub words_text : ℕ → List ℕ
-words_text words = if nat_eq words SECTOR then codes " 256" else codes " 128"
-
--- The line of a transfer's end: drive, way, sector and first cell, both in octal, and how many words.
-abbrev pub transfer_line : Moved → List ℕ
-transfer_line m = codes "RK " ++ octal_digit m.drive ∷ way_text m.is_write ++ octal5 m.sector ++ 0o40 ∷ octal5 m.cell ++ words_text m.words ++ 10 ∷ []
-
-abbrev pub moved_text : Option Moved → List ℕ
-moved_text None = []
-moved_text (Some moved) = transfer_line moved
 
 -- what the step that a terminal makes next prints: the line of the transfer that ends in its beginning, if one does, and its own
 unfoldable pub next_line : (ℕ → Bool) → Terminal → List ℕ

@@ -4,7 +4,7 @@
 //! whose words it changed, and the character that it printed. A word that the 8/I does too is spelled as its source has it. Before the
 //! line of a step stands that of a transfer of the disk that ends in the beginning of the step.
 //!
-//! What the steps punch, and print on the line printer, is put on paper that is kept until the run ends.
+//! What the steps punch, and print on the line printer, is put on paper that is kept until the run ends. So are the lines of transfers.
 //!
 //! The lines wait in a list that takes its memory once, and go to a writer some hundreds at a time.
 //!

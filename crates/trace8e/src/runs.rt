@@ -15,7 +15,8 @@ use terminal8::{Ended, TerminalEnd, stop_of};
 /// (this project's profile). Counts are 0 before, one for each of the 0o100000 cells of core.
 ///
 /// It ends at a HLT, or where the machine stands stopped. It also ends where the keys have ended and the machine waits for one for
-/// ever, or after n steps. What the steps punch, and print on the line printer, is put on paper. It takes no memory.
+/// ever, or after n steps. What the steps punch, and print on the line printer, is put on paper, and a line of each transfer. It takes no
+/// memory.
 pub fn count_fetches(
     terminal: &mut Terminal<'_>,
     n: u64,
@@ -44,8 +45,7 @@ pub fn count_fetches(
                 why: TerminalEnd::Keys,
             };
         }
-        let did = count_step(terminal, counts);
-        papers.put(terminal.machine());
+        let did = count_step(terminal, counts, papers);
         made += 1;
         if let Some(why) = stop_of(did) {
             return Ended { steps: made, why };

@@ -5,7 +5,7 @@ ghost use Rattle.std.specs.Io.KnownBytes.{Appends};
 ghost use Rattle.word12.specs.declared.sizes.TheConstants.{CORE};
 ghost use Rattle.tape_source.specs.Tags.{is_flagged};
 ghost use Rattle.pdp8e.specs.Papers.{papers_after};
-ghost use Rattle.pdp8e.specs.Terminal.{next, after_step};
+ghost use Rattle.pdp8e.specs.Terminal.{next, after_step, move_at};
 ghost use Rattle.trace8e.specs.Trace.{next_line};
 ghost use Rattle.trace8e.specs.Tracing.{Traces};
 ghost use Rattle.trace8e.specs.Papers.{GetTraced};
@@ -28,7 +28,7 @@ use trace8::TraceFault;
 /// ends where no key is left and the machine waits for one for ever, or after n steps.
 ///
 /// Memory is taken once, before the first step, unless lines are longer than any that is known. The answer is `Writer` where the
-/// writer failed. What the steps punch, and print on the line printer, is put on paper, however the trace ends.
+/// writer failed. What the steps punch, and print on the line printer, is put on paper, and a line of each transfer, however the trace ends.
 pub fn trace<O: Output>(
     alloc: Global,
     terminal: &mut Terminal<'_>,
@@ -108,13 +108,13 @@ fn trace_step(
     ensures did { IfOk result (λ did. did ≡ (after_step terminal.old).1) }
     ensures line { OnOk result (lines.new.items ≡ lines.old.items
         ++ next_line (is_flagged tags.now) terminal.old) }
-    ensures papers { papers.new ≡ papers_after terminal.new.machine papers.old }
+    ensures papers { papers.new ≡ papers_after (move_at terminal.old) terminal.new.machine papers.old }
 {
     step_has_parts();
     let moved = terminal.begin_step();
     let before = Before::of(terminal.machine().processor());
     let did = terminal.finish_step();
-    papers.put(terminal.machine());
+    papers.put(&moved, terminal.machine());
     put_moved(lines, &moved)?;
     put_line(lines, tags, &before, &did, terminal.machine().processor())?;
     Ok(did)

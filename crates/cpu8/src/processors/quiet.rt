@@ -13,6 +13,7 @@
 ghost use Rattle.std.specs.Prelude.{◌≡◌, ◌-◌, ◌<◌, ◌≤◌, ◌/◌, true, false, nat_eq, length};
 ghost use Rattle.word12.specs.declared.sizes.TheConstants.{CORE};
 ghost use Rattle.cpu8.specs.State.{next_cell, with_core};
+ghost use Rattle.cpu8.specs.Decoding.{is_absent};
 ghost use Rattle.cpu8.specs.Step.{next_word};
 ghost use Rattle.cpu8.specs.Transfer.{read_row};
 ghost use Rattle.cpu8.specs.Go.{after, is_break};
@@ -22,7 +23,7 @@ ghost use Rattle.cpu8.specs.QuietSteps.{AreMinded, AreQuiet, Does, DoesOrNot, Go
 
 use super::Processor;
 use crate::decoding::{
-    Device, GROUP_2_OR_3, Operation, device_of, field_of, has, operation_of, pulses_of,
+    Device, GROUP_2_OR_3, Operation, device_of, field_of, has, is_absent, operation_of, pulses_of,
 };
 use core_load::Core;
 use word12::{Cell, FIELD, Word};
@@ -83,8 +84,8 @@ impl Processor {
     }
 
     /// Makes up to n steps, and answers how many. It ends where a step is not quiet, and where a break is ahead. If it asks, it
-    /// also ends at a KSF that finds the keyboard flag clear; else the last step may be any IOT that prints nothing. No step
-    /// leaves the instruction field, so breaks of other fields need not be minded.
+    /// also ends at a KSF that finds the keyboard flag clear, and at an IOT of a device that isn't there. Else the last step may be
+    /// any IOT that prints nothing. No step leaves the instruction field, so breaks of other fields need not be minded.
     #[inline(always)]
     pub(crate) fn run_quietly<const MINDS: bool>(
         &mut self,
@@ -229,7 +230,7 @@ impl Processor {
     }
 
     /// Does the next instruction, if it is one of this loop, and answers whether it was. If it asks, a KSF that finds the keyboard
-    /// flag clear is none.
+    /// flag clear is none, and no IOT of a device that isn't there.
     #[inline(always)]
     fn step_quietly<const MINDS: bool, const COUNTS: bool, const TRANSFERS: bool>(
         &mut self,
@@ -239,6 +240,7 @@ impl Processor {
         ensures does { MakesOrNot TRANSFERS (with_core self.old core.old) (next_word (with_core self.old core.old))
             result (with_core self.new core.new) }
         ensures asks { asks ≡ true → result ≡ true → finds_no_key (with_core self.old core.old) ≡ false }
+        ensures there { asks ≡ true → result ≡ true → is_absent (next_word (with_core self.old core.old)) ≡ false }
     {
         let word = core.get(self.next_cell());
         refer_or_else! { self, core, word:
@@ -248,11 +250,11 @@ impl Processor {
                 if asks && self.finds_no_key(core) {
                     return false;
                 }
-                return self.make_transfer::<TRANSFERS>(core, word);
+                return self.make_transfer::<TRANSFERS>(core, word, asks);
             },
-            0o31 => return self.make_other_transfer::<TRANSFERS>(core, leading(0o31, word)),
-            0o32 => return self.make_other_transfer::<TRANSFERS>(core, leading(0o32, word)),
-            0o33 => return self.make_other_transfer::<TRANSFERS>(core, leading(0o33, word)),
+            0o31 => return self.make_other_transfer::<TRANSFERS>(core, leading(0o31, word), asks),
+            0o32 => return self.make_other_transfer::<TRANSFERS>(core, leading(0o32, word), asks),
+            0o33 => return self.make_other_transfer::<TRANSFERS>(core, leading(0o33, word), asks),
             _ => return self.operate_quietly::<MINDS, COUNTS, TRANSFERS>(core, word),
         }
         true
@@ -280,15 +282,19 @@ impl Processor {
     /// An IOT of the words 6000 to 6177, if it is one of this loop. In the loop with IOTs those of interrupts and of the Teletype
     /// that print nothing have code of their own, and in the others KSF and TSF.
     #[inline(always)]
-    fn make_transfer<const TRANSFERS: bool>(&mut self, core: &Core, word: Word) -> bool
+    fn make_transfer<const TRANSFERS: bool>(&mut self, core: &Core, word: Word, asks: bool) -> bool
         requires { word / 0o200 ≡ 0o30 }
-        ensures { MakesOrNot TRANSFERS (with_core self.old core.now) word result (with_core self.new core.now) }
+        ensures does { MakesOrNot TRANSFERS (with_core self.old core.now) word result (with_core self.new core.now) }
+        ensures there { asks ≡ true → result ≡ true → is_absent word ≡ false }
     {
         if !TRANSFERS {
-            return each_for_itself! { self, transfer_quietly, core, word:
+            return each_for_itself! { self, transfer_there, core, word:
                 0o6031 0o6041;
-                else self.transfer_quietly(core, leading(0o30, word))
+                else self.transfer_quietly(core, leading(0o30, word), asks)
             };
+        }
+        if asks && is_absent(word) {
+            return false;
         }
         each_for_itself! { self, transfer_and_go_on, core, word:
             0o6001 0o6002
@@ -300,22 +306,41 @@ impl Processor {
 
     /// An IOT of another word, if it is one of this loop.
     #[inline(always)]
-    fn make_other_transfer<const TRANSFERS: bool>(&mut self, core: &Core, word: Word) -> bool
+    fn make_other_transfer<const TRANSFERS: bool>(
+        &mut self,
+        core: &Core,
+        word: Word,
+        asks: bool,
+    ) -> bool
         requires { word / 0o1000 ≡ 6 }
-        ensures { MakesOrNot TRANSFERS (with_core self.old core.now) word result (with_core self.new core.now) }
+        ensures does { MakesOrNot TRANSFERS (with_core self.old core.now) word result (with_core self.new core.now) }
+        ensures there { asks ≡ true → result ≡ true → is_absent word ≡ false }
     {
         if !TRANSFERS {
-            return self.transfer_quietly(core, word);
+            return self.transfer_quietly(core, word, asks);
+        }
+        if asks && is_absent(word) {
+            return false;
         }
         self.transfer_and_go_on(core, word)
     }
 
-    /// KSF, TSF, CDF, RDF, RIF, or pulse 1 of a device that is not there. Other IOTs are left.
-    #[tactic(auto, unfolding(crate::specs::Step::after_instruction))]
+    /// An IOT of a device that is there, if it is one of this loop.
     #[inline(always)]
-    fn transfer_quietly(&mut self, core: &Core, word: Word) -> bool
+    fn transfer_there(&mut self, core: &Core, word: Word) -> bool
         requires { word / 0o1000 ≡ 6 }
         ensures { DoesOrNot (with_core self.old core.now) word result (with_core self.new core.now) }
+    {
+        self.transfer_quietly(core, word, false)
+    }
+
+    /// KSF, TSF, CDF, RDF, RIF, or, if it does not ask, pulse 1 of a device that isn't there. Other IOTs are left.
+    #[tactic(auto, unfolding(crate::specs::Step::after_instruction))]
+    #[inline(always)]
+    fn transfer_quietly(&mut self, core: &Core, word: Word, asks: bool) -> bool
+        requires { word / 0o1000 ≡ 6 }
+        ensures does { DoesOrNot (with_core self.old core.now) word result (with_core self.new core.now) }
+        ensures there { asks ≡ true → result ≡ true → is_absent word ≡ false }
     {
         if pulses_of(word) != 1 {
             return self.read_quietly(core, word);
@@ -327,7 +352,12 @@ impl Processor {
             Device::Printer => self.skip(printer_flag),
             Device::Fields => self.cdf(field_of(word)),
             Device::Interrupts => return false,
-            Device::Other => self.advance(),
+            Device::Other => {
+                if asks {
+                    return false;
+                }
+                self.advance();
+            }
         }
         true
     }
@@ -337,7 +367,8 @@ impl Processor {
     #[inline(always)]
     fn read_quietly(&mut self, core: &Core, word: Word) -> bool
         requires { word / 0o1000 ≡ 6 }
-        ensures { DoesOrNot (with_core self.old core.now) word result (with_core self.new core.now) }
+        ensures does { DoesOrNot (with_core self.old core.now) word result (with_core self.new core.now) }
+        ensures there { result ≡ true → is_absent word ≡ false }
     {
         if pulses_of(word) != 4 {
             return false;

@@ -13,23 +13,23 @@ returns-in-Ok-Some g c =
     let f = c.args.form.now in
     let part = c.make_round-given.result.2 in
     ended-rounds f c.args.console.now c.make_round-given.new.console c.args.places.now (c.loop-fault.places, c.loop-fault.last) _ (g.H.Host.history c.args.host) (g.H.Host.history c.loop-fault.host)
-    (g.H.Host.history c.make_round-given.result.0) c.end_in_round.result c.loop-fault.sitting.steps c.unwrap_or-most.result c.make_round-given.result.1 (Ok c.in-Ok-Some.ended) c.unwrap_or-most.ensures
+    (g.H.Host.history c.make_round-given.result.0) c.end_in_round.result c.loop-fault.sitting.steps c.unwrap_or-most.result c.make_round-given.result.1 c.make_round-given.new.sitting.absences (Ok c.in-Ok-Some.ended) c.unwrap_or-most.ensures
     c.loop-fault.invariant.within.0 c.loop-fault.invariant.made
     (part-comes (form_of f.is_raw) (input_of f.is_live) _ _ _ _ _ _ _ _ _ _ _ _ _ part (Ok (Some c.in-Ok-Some.ended)) c.loop-fault.invariant.input
     (c.in-Ok-Some.is ∙ ap (λ x. Ok x) (rw (c.in-Ok-Some.is) at c.in-Ok-Some.field-0-is)) (c.make_round-given.ensures.runs _ _ _ _) c.loop-fault.invariant.come)
-    c.make_round-given.ensures.prints tt tt c.end_in_round.ensures.fault c.end_in_round.ensures.answer c.end_in_round.ensures.save
+    c.make_round-given.ensures.prints tt tt c.end_in_round.ensures.fault c.end_in_round.ensures.answer c.end_in_round.ensures.absences c.end_in_round.ensures.save
 
 pub returns-in-Err : goal.returns-in-Err
 returns-in-Err g c =
     let f = c.args.form.now in
     let part = c.make_round-given.result.2 in
     ended-rounds f c.args.console.now c.make_round-given.new.console c.args.places.now (c.loop-fault.places, c.loop-fault.last) _ (g.H.Host.history c.args.host) (g.H.Host.history c.loop-fault.host)
-    (g.H.Host.history c.make_round-given.result.0) c.end_in_round-in-Err.result c.loop-fault.sitting.steps c.unwrap_or-most.result c.make_round-given.result.1 (Err c.in-Err.why) c.unwrap_or-most.ensures
+    (g.H.Host.history c.make_round-given.result.0) c.end_in_round-in-Err.result c.loop-fault.sitting.steps c.unwrap_or-most.result c.make_round-given.result.1 c.make_round-given.new.sitting.absences (Err c.in-Err.why) c.unwrap_or-most.ensures
     c.loop-fault.invariant.within.0 c.loop-fault.invariant.made
     (part-comes (form_of f.is_raw) (input_of f.is_live) _ _ _ _ _ _ _ _ _ _ _ _ _ part (Err c.in-Err.why) c.loop-fault.invariant.input c.in-Err.is
     (c.make_round-given.ensures.runs _ _ _ _) c.loop-fault.invariant.come)
     c.make_round-given.ensures.prints (rw (c.in-Err.is) at c.make_round-given.ensures.cause) (rw (c.in-Err.is) at c.make_round-given.ensures.failed)
-    c.end_in_round-in-Err.ensures.fault c.end_in_round-in-Err.ensures.answer c.end_in_round-in-Err.ensures.save
+    c.end_in_round-in-Err.ensures.fault c.end_in_round-in-Err.ensures.answer c.end_in_round-in-Err.ensures.absences c.end_in_round-in-Err.ensures.save
 
 pub returns-then-is_some : goal.returns-then-is_some
 returns-then-is_some g c =
@@ -40,7 +40,7 @@ returns-then-is_some g c =
     let come = part-comes (form_of f.is_raw) (input_of f.is_live) _ _ _ _ _ _ _ _ _ _ _ _ _ part (Ok None) c.loop-fault.invariant.input is (c.make_round-given.ensures.runs _ _ _ _) c.loop-fault.invariant.come in
     broken-by-print f c.args.console.now c.make_round-given.new.console c.args.places.now (c.loop-fault.places, c.loop-fault.last) _ (g.H.Host.history c.args.host) (g.H.Host.history c.loop-fault.host)
     (g.H.Host.history c.make_round-given.result.0) c.break_run.result c.loop-fault.sitting.steps c.make_round-given.new.sitting.steps c.make_round-given.result.1 less c.loop-fault.invariant.made
-    (broken-runs (form_of f.is_raw) (input_of f.is_live) _ _ _ _ c.make_round-given.new.sitting _ _ _ _ _ (c.make_round-given.ensures.input ∙ c.loop-fault.invariant.input) (c.break_run.ensures.runs _ _ _ _ _ _) come)
+    (broken-runs (form_of f.is_raw) (input_of f.is_live) _ _ _ _ c.make_round-given.new.sitting _ _ _ _ _ _ (c.make_round-given.ensures.input ∙ c.loop-fault.invariant.input) (c.break_run.ensures.runs _ _ _ _ _ _) come)
     c.break_run.ensures.ended c.make_round-given.ensures.prints (sym c.is_some.ensures ∙ c.if-is_some.true) c.break_run.ensures.fault c.break_run.ensures.save
 
 pub loop-fault-preserved : goal.loop-fault-preserved
@@ -88,7 +88,7 @@ returns-in-Ok-true g c =
     (g.I.ByteReader.remaining c.make_round-given.new.keys) (Some (output_text (g.H.Host.history c.args.host))) (Some (output_text after))) (sym c.pause.ensures.console) on in
     broken-between f c.args.console.now c.pause.new.console c.args.places.now mid kept _ (g.H.Host.history c.args.host) (g.H.Host.history c.loop-fault.host) before after
     c.break_run-in-Ok-true.result c.loop-fault.sitting.steps steps (Ok true) less c.loop-fault.invariant.made
-    (broken-runs (form_of f.is_raw) (input_of f.is_live) _ _ _ _ c.make_round-given.new.sitting _ _ _ _ _ (c.make_round-given.ensures.input ∙ c.loop-fault.invariant.input) (c.break_run-in-Ok-true.ensures.runs _ _ _ _ _ _) now)
+    (broken-runs (form_of f.is_raw) (input_of f.is_live) _ _ _ _ c.make_round-given.new.sitting _ _ _ _ _ _ (c.make_round-given.ensures.input ∙ c.loop-fault.invariant.input) (c.break_run-in-Ok-true.ensures.runs _ _ _ _ _ _) now)
     c.break_run-in-Ok-true.ensures.ended (subst (λ w. HasPrinted (g.H.Host.history c.loop-fault.host) before w) none c.make_round-given.ensures.prints)
     (subst (λ s. DoesBetween f steps s mid kept before (Ok true) after) (sym c.pause.ensures.console) does)
     (refl, c.break_run-in-Ok-true.ensures.save) c.break_run-in-Ok-true.ensures.fault
@@ -112,7 +112,7 @@ returns-in-Err-pause g c =
     (g.I.ByteReader.remaining c.make_round-given.new.keys) (Some (output_text (g.H.Host.history c.args.host))) (Some (output_text after))) (sym c.pause.ensures.console) on in
     broken-between f c.args.console.now c.pause.new.console c.args.places.now mid kept _ (g.H.Host.history c.args.host) (g.H.Host.history c.loop-fault.host) before after
     c.break_run-in-Err-pause.result c.loop-fault.sitting.steps steps (Err c.in-Err-pause.unsaved) less c.loop-fault.invariant.made
-    (broken-runs (form_of f.is_raw) (input_of f.is_live) _ _ _ _ c.make_round-given.new.sitting _ _ _ _ _ (c.make_round-given.ensures.input ∙ c.loop-fault.invariant.input) (c.break_run-in-Err-pause.ensures.runs _ _ _ _ _ _) now)
+    (broken-runs (form_of f.is_raw) (input_of f.is_live) _ _ _ _ c.make_round-given.new.sitting _ _ _ _ _ _ (c.make_round-given.ensures.input ∙ c.loop-fault.invariant.input) (c.break_run-in-Err-pause.ensures.runs _ _ _ _ _ _) now)
     c.break_run-in-Err-pause.ensures.ended (subst (λ w. HasPrinted (g.H.Host.history c.loop-fault.host) before w) none c.make_round-given.ensures.prints)
     (subst (λ s. DoesBetween f steps s mid kept before (Err c.in-Err-pause.unsaved) after) (sym c.pause.ensures.console) does)
     c.break_run-in-Err-pause.ensures.save c.break_run-in-Err-pause.ensures.fault

@@ -1,4 +1,4 @@
-use Rattle.std.proofs.Common.{inr, ◌∙◌, ap}
+use Rattle.std.proofs.Common.{inl, inr, refl, ◌∙◌, ap}
 use Rattle.drive_files.specs.Consoles.{console_acts}
 use Rattle.run_commands.proofs.ReadyLemmas.{boot-runs}
 use Rattle.run_commands.proofs.boots.boot_disk.Goals as goal
@@ -13,3 +13,6 @@ returns-in-Ok g c = inr (record {
   done = c.in-Ok.ensures;
   after = rw (c.booted_console-console.ensures.console, c.booted_console-console.ensures.places) at c.run_console.ensures;
 })
+
+pub returns-in-Err : goal.returns-in-Err
+returns-in-Err g c = inl (c.in-Err.ensures, refl)

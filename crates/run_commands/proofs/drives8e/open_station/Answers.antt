@@ -2,6 +2,9 @@ use Rattle.std.proofs.Common.{◌∙◌, ap, inl, inr, refl}
 use Rattle.image_files.proofs.WorkLemmas.{ends_with}
 use Rattle.drive_files.specs.Opening.{OpensDrives}
 use Rattle.drive_files.specs.Devices.{OpensDevices, with_devices}
+use Rattle.drive_files.specs.Mounting.{with_papers}
+use Rattle.drive_files.specs.declared.devices.PaperPlaces.{PaperPlaces}
+use Rattle.drive_files.specs.declared.mounting.Places.{Places}
 use Rattle.run_commands.proofs.drives8e.open_station.Goals as goal
 
 pub returns-in_err-drives : goal.returns-in_err-drives
@@ -40,10 +43,9 @@ returns g c = inr (record {
       done = c.in_ok-devices.ensures;
       after = (
         (
-          c.put_devices-punch.ensures.machine ∙ ap (λ m. with_devices m c.args.asked.now c.in_ok-devices.devices) c.machine_of-machine.ensures.machine,
-          c.machine_of-machine.ensures.places,
-          c.put_devices-punch.ensures.punch,
-          c.put_devices-punch.ensures.printer,
+          c.put_devices.ensures.machine ∙ ap (λ m. with_devices m c.args.asked.now c.in_ok-devices.devices) c.machine_of-machine.ensures.machine,
+          ap (λ (p : PaperPlaces). let x : Places = record c.machine_of-machine.result.1 { papers = p } in x) c.put_devices.ensures.papers
+              ∙ ap (λ (p : Places). with_papers c.in_ok-devices.devices p) c.machine_of-machine.ensures.places,
           refl,
         ),
         refl,

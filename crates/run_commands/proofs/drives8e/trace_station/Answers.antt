@@ -1,6 +1,8 @@
 use Rattle.std.proofs.Common.{◌∙◌, ap, subst}
 use Rattle.cpu8.specs.State.{next_cell}
+use Rattle.drive_files.specs.Devices.{SavesPapers}
 use Rattle.drive_files.specs.Saving.{earlier}
+use Rattle.drive_files.specs.declared.devices.PaperPlaces.{PaperPlaces}
 use Rattle.run_commands.specs.Printing.{EndsTrace}
 use Rattle.run_commands.proofs.drives8e.trace_station.Goals as goal
 
@@ -21,7 +23,8 @@ returns g c = record {
   saves = rw c.into_machine-machine.ensures at c.save_drives-saved.ensures.saves;
   filed = c.save_papers-filed.result;
   written = g.H.Host.history c.save_papers-filed.new.host;
-  files = c.save_papers-filed.ensures;
+  files = subst (λ (p : PaperPlaces). SavesPapers c.trace_onto-host.new.papers p (g.H.Host.history c.save_drives-saved.new.host) c.save_papers-filed.result (g.H.Host.history c.save_papers-filed.new.host))
+      c.save_drives-saved.ensures.saves.same.4 c.save_papers-filed.ensures;
   ended = c.end_trace-ended.result;
   ends = subst (λ k. EndsTrace k c.trace_onto-host.result.1 c.trace_onto-host.result.2 (g.H.Host.history c.save_papers-filed.new.host) c.end_trace-ended.result (g.H.Host.history c.end_trace-ended.new.host))
       (c.next_cell-cell.ensures.value ∙ ap (λ p. next_cell p.base) c.processor.ensures.processor ∙ ap (λ m. next_cell m.processor.base) c.into_machine-machine.ensures) c.end_trace-ended.ensures;

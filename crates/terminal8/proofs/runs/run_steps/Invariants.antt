@@ -6,7 +6,7 @@ use Rattle.terminal8.proofs.runs.run_steps.Given as goal
 abbrev pub invariant-loop-made : goal.invariant-loop-made
 invariant-loop-made g l = record {
   running : IsRunning l.fn.form l.fn.input l.fn.machine l.machine l.operator.keyboard l.operator.ahead l.operator.is_over l.operator.since
-      (g.R.ByteReader.remaining l.fn.reader) (g.R.ByteReader.remaining l.reader) (g.O.Output.contents l.fn.writer) (g.O.Output.contents l.writer) l.paper l.made;
+      (g.R.ByteReader.remaining l.fn.reader) (g.R.ByteReader.remaining l.reader) (g.O.Output.contents l.fn.writer) (g.O.Output.contents l.writer) l.paper l.absences l.made;
   input : l.operator.input ≡ l.fn.input;
   sooner : l.operator.since ≤ l.made;
   within : l.made ≤ l.n;

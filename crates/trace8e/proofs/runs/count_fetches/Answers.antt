@@ -1,4 +1,4 @@
-use Rattle.std.proofs.Common.{ap, sym, ◌∙◌, arith}
+use Rattle.std.proofs.Common.{ap, refl, sym, ◌∙◌, arith}
 use Rattle.cpu8.specs.State.{next_cell}
 use Rattle.cpu8e.specs.State.{State8e}
 use Rattle.pdp8e.specs.State.{Pdp8e}
@@ -38,8 +38,8 @@ returns-in-Some c =
       run = run.run;
       terminal = run.terminal;
       counts = run.counts_are;
-      papers = more-steps c.args.terminal.now c.loop-made.terminal c.count_step-did.new.terminal c.machine-in-loop-made.result.now c.args.papers.now c.loop-made.papers c.put.new.self c.loop-made.made
-          i.papers i.counting.going.at did.state c.machine-in-loop-made.ensures c.put.ensures;
+      papers = more-steps c.args.terminal.now c.loop-made.terminal c.count_step-did.new.terminal _ c.args.papers.now c.loop-made.papers c.count_step-did.new.papers c.loop-made.made
+          i.papers i.counting.going.at did.state refl did.papers;
     }
 
 pub loop-made-preserved : goal.loop-made-preserved
@@ -51,6 +51,6 @@ loop-made-preserved c =
           c.count_step-did.new.counts c.count_step-did.result i.counting (sym c.starves.ensures ∙ c.if-starves.false)
           did.state did.answer did.cell did.counts (sym c.stop_of.ensures ∙ c.in_default.is);
       within = omega (arith, c.loop-made-test.true);
-      papers = more-steps c.args.terminal.now c.loop-made.terminal c.count_step-did.new.terminal c.machine-in-loop-made.result.now c.args.papers.now c.loop-made.papers c.put.new.self c.loop-made.made
-          i.papers i.counting.going.at did.state c.machine-in-loop-made.ensures c.put.ensures;
+      papers = more-steps c.args.terminal.now c.loop-made.terminal c.count_step-did.new.terminal _ c.args.papers.now c.loop-made.papers c.count_step-did.new.papers c.loop-made.made
+          i.papers i.counting.going.at did.state refl did.papers;
     }

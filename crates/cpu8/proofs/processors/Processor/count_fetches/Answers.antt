@@ -50,7 +50,7 @@ loop-left-preserved c =
       state = subst (λ k. new ≡ after true k s) more (after-quiet true made s old new i.state i.quiet does);
       quiet = stays-quiet true old new i.quiet does.stays;
       unasked = subst (λ k. AreUnasked s k) more
-          (unasked-next made s old new i.state i.quiet (c.if-not-step_quietly.ensures.asks refl refl) i.interrupts does i.unasked);
+          (unasked-next made s old new i.state i.quiet (c.if-not-step_quietly.ensures.asks refl refl) (c.if-not-step_quietly.ensures.there refl refl) i.interrupts does i.unasked);
       interrupts = does.stays.interrupts_on ∙ i.interrupts;
       adds = subst (λ k. AddsFetches k s c.args.counts.now counts) more adds;
       within = omega (arith, within);

@@ -66,7 +66,7 @@ loop-left-preserved g c =
       fields-same old new (c.if-not-step_quietly.ensures.does).stays c.loop-left.invariant.5,
       λ quick asks. subst (λ k. AreUnasked s k) more
           (unasked-on c.args.quick quick made s old new c.loop-left.invariant.0 c.loop-left.invariant.2
-          (c.if-not-step_quietly.ensures.asks asks refl) c.loop-left.invariant.7 c.if-not-step_quietly.ensures.does
+          (c.if-not-step_quietly.ensures.asks asks refl) (c.if-not-step_quietly.ensures.there asks refl) c.loop-left.invariant.7 c.if-not-step_quietly.ensures.does
           (c.loop-left.invariant.6 quick asks)),
       (c.if-not-step_quietly.ensures.does).stays.interrupts_on ∙ c.loop-left.invariant.7,
       omega (arith, fits),
@@ -78,7 +78,7 @@ returns-then-is_at_break-clause-unasked g c = λ quick asks.
     subst (λ k. AreUnasked s k) (one-more c.args.n c.loop-left.left c.loop-left-test.true c.loop-left.invariant.8)
     (unasked-on c.args.quick quick (c.args.n - c.loop-left.left) s (with_core c.loop-left.self c.loop-left.core)
     (with_core c.step_quietly.new.self c.step_quietly.new.core) c.loop-left.invariant.0 c.loop-left.invariant.2
-    (c.if-not-step_quietly.ensures.asks asks refl) c.loop-left.invariant.7 c.if-not-step_quietly.ensures.does
+    (c.if-not-step_quietly.ensures.asks asks refl) (c.if-not-step_quietly.ensures.there asks refl) c.loop-left.invariant.7 c.if-not-step_quietly.ensures.does
     (c.loop-left.invariant.6 quick asks))
 
 pub returns-then-end_by_transfer-clause-state : goal.returns-then-end_by_transfer-clause-state

@@ -3,7 +3,7 @@ use Rattle.cpu8.specs.declared.outcomes.Stepped.{Stepped}
 use Rattle.cpu8e.specs.State.{State8e}
 use Rattle.cpu8e.specs.Step as Cpu
 use Rattle.pdp8e.specs.State.{Pdp8e, IsJoined, with_processor}
-use Rattle.pdp8e.proofs.StillLemmas.{still_step}
+use Rattle.pdp8e.proofs.StillLemmas.{going_still, quiet_is}
 use Rattle.pdp8e.proofs.machines.Machine.step_processor.Goals as goal
 
 pub returns-clause-state : goal.returns-clause-state
@@ -12,7 +12,7 @@ returns-clause-state c =
     ap (λ (p : State8e). let m : Pdp8e = record { processor = p; disk = c.self.inside.disk; devices = c.self.inside.devices } in m) c.step.ensures.state
     ∙ ap (λ (m : Pdp8e). with_processor m (Cpu.step m.processor).0) c.self.view_is
     ∙ sym (ap (λ (r : Pdp8e × Stepped). r.0)
-    (still_step c.args.self.now sees c.requires.quiet c.requires.running c.requires.other c.request_stays.ensures))
+    (going_still c.args.self.now sees (quiet_is c.args.self.now c.requires.quiet) c.requires.running c.requires.other c.request_stays.ensures))
 
 pub returns-clause-answer : goal.returns-clause-answer
 returns-clause-answer c =
@@ -20,4 +20,4 @@ returns-clause-answer c =
     c.step.ensures.answer
     ∙ ap (λ (m : Pdp8e). (Cpu.step m.processor).1) c.self.view_is
     ∙ sym (ap (λ (r : Pdp8e × Stepped). r.1)
-    (still_step c.args.self.now sees c.requires.quiet c.requires.running c.requires.other c.request_stays.ensures))
+    (going_still c.args.self.now sees (quiet_is c.args.self.now c.requires.quiet) c.requires.running c.requires.other c.request_stays.ensures))

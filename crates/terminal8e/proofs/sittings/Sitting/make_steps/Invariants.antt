@@ -10,7 +10,7 @@ invariant-loop-self g l = record {
   running : (first : _) (form : Form) (before written : Option (List ℕ))
       → HasCome g.M.TerminalMachine.acts form l.fn.self.operator.input first l.fn.machine l.fn.self before (g.R.ByteReader.remaining l.fn.reader) written (g.O.Output.contents l.fn.writer)
       → IsRunning g.M.TerminalMachine.acts form l.fn.self.operator.input first l.machine l.self.operator.keyboard l.self.operator.ahead l.self.operator.is_over l.self.operator.since
-      before (g.R.ByteReader.remaining l.reader) written (g.O.Output.contents l.writer) l.paper l.self.steps;
+      before (g.R.ByteReader.remaining l.reader) written (g.O.Output.contents l.writer) l.paper l.self.absences l.self.steps;
   input : l.self.operator.input ≡ l.fn.self.operator.input;
   sooner : l.self.operator.since ≤ l.self.steps;
   within : l.self.steps ≤ l.last;
