@@ -24,8 +24,8 @@ use crate::verb_laws::refused_changes;
 use image_files::laws::found_again;
 
 /// What is lost if the plug is pulled in `put`. At each moment a crash leaves what it might have left before, or one new file, whole. That is the one
-/// which the path has where `put` ends well. Of a file that could only be written in its place nothing is promised, and a note says so. Where it isn't
-/// known whether the disk has the new file a note says so too. No other path is touched.
+/// which the path has where `put` ends well. Of a file that could only be written in its place nothing is promised. Where `put` ends well a note says so,
+/// and so does one where it isn't known whether the disk has the new file. No other path is touched.
 pub fn plug_pulled()
     ensures { (form : Put) (old : List Event) (result : Result (Unit {0}) End) (new : List Event) → Puts form old result new
         → ((path : List ℕ) → IsLeftAlone path old new) ⊎ IsOldOrNew result old new }
